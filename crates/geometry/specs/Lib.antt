@@ -1,0 +1,4 @@
+pub mod Size
+pub mod Rect
+pub mod Snap
+pub mod Cover

@@ -1,0 +1,6 @@
+use std::test::*;
+
+#[test]
+fn nothing() -> Result<(), Fail> {
+    check(true)
+}
