@@ -1,0 +1,3 @@
+pub mod Backs
+pub mod Opens
+pub mod Changes
