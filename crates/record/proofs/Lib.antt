@@ -1,3 +1,5 @@
 pub mod Backs
 pub mod Opens
 pub mod Changes
+pub mod Nestings
+pub mod Sounds

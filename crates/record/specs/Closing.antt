@@ -63,3 +63,11 @@ padsWithin (Some f) (Some c) = empty c || (leb (c .x1 + f .«filter_padding» .r
 abbrev pub kindOf : Option FilterData → PoppedLayer
 kindOf None = popped.Regular
 kindOf (Some f) = popped.Filter
+
+abbrev pub kindPlaced : Option FilterLayerPlacement → PoppedLayer
+kindPlaced None = popped.Regular
+kindPlaced (Some p) = popped.Filter
+
+-- a filter layer has a placement, and a regular one has none
+abbrev pub kindClosed : ClosedLayer → PoppedLayer
+kindClosed k = kindPlaced (k .placement)

@@ -4,3 +4,6 @@ pub mod Opening
 pub mod Closing
 pub mod Account
 pub mod Tree
+pub mod Sound
+pub mod Recording
+pub mod Pushed

@@ -11,6 +11,9 @@ use Rattle.geometry.specs.declared.rect.RectU16.{RectU16}
 use Rattle.filter.specs.declared.data.FilterData.{FilterData}
 use Rattle.filter.specs.Placement.{shiftX, shiftY}
 use Rattle.record.specs.declared.props.LayerClip.{LayerClip}
+use Rattle.record.specs.declared.props.LayerProps.{LayerProps}
+use Rattle.refusal.specs.Refusals.{Question}
+use mathlib.Core.List.{List, [], _∷_}
 
 -- at least 0 and at most 1, as floats compare: what is not a number is neither
 abbrev pub opacityFits : Float → Bool
@@ -32,3 +35,7 @@ shiftOnTiles (Some f) = onTile (shiftX f) && onTile (shiftY f)
 abbrev pub clipBox : Option LayerClip → Option RectU16
 clipBox None = None
 clipBox (Some c) = Some (c .bbox)
+
+-- what an opening asks of its arguments
+abbrev pub argumentQuestions : LayerProps → Option FilterData → List Question
+argumentQuestions props f = (opacityFits (props .opacity), 5) ∷ (clipOnTiles (props .«clip_path»), 6) ∷ (shiftOnTiles f, 7) ∷ []

@@ -278,17 +278,22 @@ impl Account {
         }
     }
 
-    // Closes the innermost open layer; the layer around it takes in what it hands on.
-    pub(crate) fn close_layer(&mut self) -> Result<ClosedLayer, Refusal>
-        ensures { λ r. ⌜ Answers (closeQuestions (accountOf (now (self .entry)))) r (λ k. (closingOf (accountOf (now (self .entry)) .opened) ≡ Some k) × (accountOf (now (self .exit)) ≡ accountAfterClosing k (accountOf (now (self .entry))))) (now (self .exit) ≡ now (self .entry)) ⌝ }
+    // What the closing of the innermost open layer gives.
+    pub(crate) fn closing(&self) -> Result<ClosedLayer, Refusal>
+        ensures { λ r. ⌜ Answers (closeQuestions (accountOf (now (self .entry)))) r (λ k. closingOf (accountOf (now (self .entry)) .opened) ≡ Some k) (Unit {0}) ⌝ }
     {
         let Some(layer) = self.innermost() else {
             return Err(Refusal::NoLayerOpen);
         };
-        let closed = close(&layer)?;
+        close(&layer)
+    }
+
+    // The innermost layer is closed; the layer around it takes in what it hands on.
+    pub(crate) fn leave_layer(&mut self, closed: &ClosedLayer)
+        ensures { λ _. ⌜ accountOf (now (self .exit)) ≡ accountAfterClosing (now (closed .entry)) (accountOf (now (self .entry))) ⌝ }
+    {
         self.pop_open();
-        self.note_size(&closed);
+        self.note_size(closed);
         self.record_bbox(Some(closed.in_parent));
-        Ok(closed)
     }
 }

@@ -4,5 +4,7 @@ mod account_calls;
 pub mod layer;
 pub mod node;
 pub mod props;
+pub mod record;
+pub mod recorder;
 pub mod tree;
 mod tree_calls;
