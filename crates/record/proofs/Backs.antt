@@ -1,10 +1,11 @@
 -- The first k elements of an array, the latest first, and what a write leaves of them.
 use mathlib.Core.Path.{_≡_, refl, sym, ap, _∙_}
-use mathlib.Core.List.{List, [], _∷_}
+use mathlib.Core.List.{List, [], _∷_, _++_, reverse, reverse-cons}
 use Prim.Native.Nat.{ℕ, zero, suc, _+_, _-_, _<_, _≤_}
 use native.Mathlib.Omega.{arith}
 use native.Mathlib.Numerals.{add-one}
-use lib.ListN.{length, getD, set}
+use lib.ListN.{length, getD, set, take}
+use Rattle.std.proofs.shelf.Lists.{take-more}
 use lib.Seq.{getD-set-same, getD-set-other}
 use mathlib.Core.Logic.{_≢_}
 use mathlib.Core.Bool.{not}
@@ -59,3 +60,12 @@ some-open xs (suc k) = lt-ltb 0 (suc k) (omega arith)
 pub put-innermost : (xs : List OpenLayer) (k i : ℕ) (b r : Option RectU16) → 0 < k → k ≤ length xs → i ≡ k - 1 → r ≡ put b (getD xs i unopened .contents)
     → openLayers (set xs i (record { id = getD xs i unopened .id; clip = getD xs i unopened .clip; filter = getD xs i unopened .filter; contents = r })) k ≡ takeIn b (openLayers xs k)
 put-innermost xs k i b r h l e p = rw (p, e) (back-again unopened xs k _ h l ∙ sym (rw (back-last unopened xs k h)))
+
+-- the first k elements both ways round
+pub reverse-back : {X : Type 0} (d : X) (xs : List X) (k : ℕ) → k ≤ length xs → reverse (back d xs k) ≡ take k xs
+reverse-back d xs zero h = refl
+reverse-back d xs (suc k) h =
+    let lt : k < length xs = omega arith in
+    let le : k ≤ length xs = omega arith in
+    let more : take (suc k) xs ≡ take k xs ++ (getD xs k d ∷ []) = rw (← add-one k) (take-more xs k d lt) in
+    reverse-cons (getD xs k d) (back d xs k) ∙ ap (λ ys. ys ++ (getD xs k d ∷ [])) (reverse-back d xs k le) ∙ sym more

@@ -207,8 +207,7 @@ sound-draw b mode a t w =
     let s = ids (a .opened) in
     let e = ids-takeIn b (a .opened) in
     let n = length-takeIn b (a .opened) in
-    let c = count-draw s (length (a .opened)) (a .layers) (a .drawn) (t .nodes) (w .0 .0) in
-    (
+    let c = count-draw s (length (a .opened)) (a .layers) (a .drawn) (t .nodes) (w .0 .0) in (
       (rw (e, n) c, w .0 .1, w .0 .2),
       ∥∥₁-map (w .1) (λ x. record { threads = rw e (threads-draw s (a .drawn) (a .layers) (t .nodes) (x .threads)); unclosed = rw e (x .unclosed) }),
     )
@@ -224,8 +223,7 @@ sound-open props f d a t w =
     let c = count-open s (length (a .opened)) (a .layers) (a .drawn) (t .nodes) (w .0 .0) in
     let layer = recordedOpen props f d in
     let long = length-append (t .layers) (layer ∷ []) in
-    let more = length-filters f (a .layers) (t .filters) in
-    (
+    let more = length-filters f (a .layers) (t .filters) in (
       (c, omega (arith, w .0 .1, long), omega (arith, w .0 .2, more)),
       ∥∥₁-map (w .1) (λ x. record {
         threads = threads-open s (a .drawn) (a .layers) (t .nodes) (x .threads);
@@ -241,17 +239,16 @@ sound-close k o outer a t e w =
     let n = length-takeIn (Some (k .«in_parent»)) outer in
     let h : length (t .nodes) + suc (length outer) ≤ 2 * a .layers + joint (t .nodes) (top (o .id ∷ s)) = rw e at (w .0 .0) in
     let c = count-close (a .layers) (length outer) (o .id) s (t .nodes) h in
-    let m = length-change (recordedClosed k) (o .id) (t .layers) in
-    (
+    let m = length-change (recordedClosed k) (o .id) (t .layers) in (
       (rw (e, i, n) c, m ∙ w .0 .1, w .0 .2),
       ∥∥₁-map (w .1) (λ x.
-      let y : Threads (t .nodes) (o .id ∷ s) (a .drawn) (a .layers) = rw e at (x .threads) in
-      let u : AllUnclosed (t .layers) (o .id ∷ s) = rw e at (x .unclosed) in
-      let f = threads-falls (o .id ∷ s) (a .drawn) (a .layers) (t .nodes) y in
-      record {
-        threads = rw (e, i) (threads-close s (a .drawn) (a .layers) (o .id) (t .nodes) y);
-        unclosed = rw (e, i) (all-change (recordedClosed k) (t .layers) s (o .id) (o .id) (omega arith) (f .1) (u .1));
-      }),
+          let y : Threads (t .nodes) (o .id ∷ s) (a .drawn) (a .layers) = rw e at (x .threads) in
+          let u : AllUnclosed (t .layers) (o .id ∷ s) = rw e at (x .unclosed) in
+          let f = threads-falls (o .id ∷ s) (a .drawn) (a .layers) (t .nodes) y in
+          record {
+            threads = rw (e, i) (threads-close s (a .drawn) (a .layers) (o .id) (t .nodes) y);
+            unclosed = rw (e, i) (all-change (recordedClosed k) (t .layers) s (o .id) (o .id) (omega arith) (f .1) (u .1));
+          }),
     )
 
 -- the innermost open layer by its number

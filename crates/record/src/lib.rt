@@ -4,6 +4,7 @@ mod account_calls;
 pub mod layer;
 pub mod node;
 pub mod props;
+pub mod read;
 pub mod record;
 pub mod recorder;
 pub mod tree;

@@ -32,7 +32,11 @@ pub fn same_owner(a: Option<u32>, b: Option<u32>) -> bool
 }
 
 // A layer as its opening records it.
-pub(crate) fn recorded_open(props: LayerProps, filter: Option<FilterData>, depth: u32) -> RecordedLayer
+pub(crate) fn recorded_open(
+    props: LayerProps,
+    filter: Option<FilterData>,
+    depth: u32,
+) -> RecordedLayer
     ensures { λ r. ⌜ r ≡ recordedOpen props filter depth ⌝ }
 {
     let kind = match filter {
