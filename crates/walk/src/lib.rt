@@ -1,0 +1,3 @@
+// Walks over a recording.
+pub mod full;
+pub mod listed;

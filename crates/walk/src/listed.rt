@@ -1,0 +1,7 @@
+// One entry of a walk, with the number of its draw or layer.
+#[derive(Clone, Copy, Debug, PartialEq, Eq)]
+pub enum Listed {
+    Draw(u32),
+    Enter(u32),
+    Leave(u32),
+}
