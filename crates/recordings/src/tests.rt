@@ -94,10 +94,16 @@ fn three_nodes() -> Result<(), Fail> {
     check_eq(recorder.push_draw(fill, &mut draws, &[]), Ok(1))?;
     check_eq(recorder.pop_layer(), Ok(PoppedLayer::Regular))?;
     check_eq(recorder.push_draw(fill, &mut draws, &[]), Ok(2))?;
-    check_eq(recorder.push_draw(fill, &mut draws, &[]), Err(Refusal::NoPlaceForDraw))?;
+    check_eq(
+        recorder.push_draw(fill, &mut draws, &[]),
+        Err(Refusal::NoPlaceForDraw),
+    )?;
     check_eq(recorder.nodes().len(), 3)?;
     let mut short = [Listed::Draw(9); 4];
-    check_eq(full_walk(&recorder, &mut short), Err(Refusal::NoPlaceInList))?;
+    check_eq(
+        full_walk(&recorder, &mut short),
+        Err(Refusal::NoPlaceInList),
+    )?;
     check_eq(short, [Listed::Draw(9); 4])?;
     let mut out = [Listed::Draw(9); 6];
     check_eq(full_walk(&recorder, &mut out), Ok(5))?;
@@ -139,7 +145,11 @@ fn filtered(fill: RectU16, padding: PaddingU16) -> Result<(RectU16, (u16, u16), 
     match layer(&recorder, 1)?.kind {
         RecordedLayerKind::Filter { placement, .. } => {
             check_eq(placement.pixmap_bbox(), layer(&recorder, 1)?.bbox)?;
-            Ok((placement.dest_bbox(), placement.src_origin(), layer(&recorder, 0)?.bbox))
+            Ok((
+                placement.dest_bbox(),
+                placement.src_origin(),
+                layer(&recorder, 0)?.bbox,
+            ))
         }
         RecordedLayerKind::Regular => Err(Fail::new("not a filter layer")),
     }
@@ -266,5 +276,8 @@ fn at_most_1048576_draws(rt: LibcRuntime) -> Result<(), Fail> {
         recorder.push_draw(fill, &mut draws, &[])?;
     }
     check(recorder.draw_count() == 1_048_576)?;
-    check_eq(recorder.push_draw(fill, &mut draws, &[]), Err(Refusal::NoPlaceForDraw))
+    check_eq(
+        recorder.push_draw(fill, &mut draws, &[]),
+        Err(Refusal::NoPlaceForDraw),
+    )
 }
