@@ -1,0 +1,3 @@
+// The walks over a recording.
+pub mod full;
+pub mod listed;
