@@ -17,7 +17,7 @@ pub enum Kind {
     Run,
 }
 
-pub trait DrawLine: Drawable + Copy {
+pub trait DrawLine: Drawable + Clone + Copy {
     // What stands in a draw list where no draw is recorded yet.
     fn blank() -> Self;
 

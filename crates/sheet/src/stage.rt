@@ -28,6 +28,7 @@ use std::io;
 use std::io::Write;
 use walk::full::full_walk;
 use walk::listed::Listed;
+use draws::tagged::TaggedClone;
 
 #[derive(Drop)]
 struct Stage<'a, D> {
@@ -97,7 +98,8 @@ impl<'a, D: DrawLine> Stage<'a, D> {
         let mut entries = vec![in self.heap; Listed::Draw(0); self.walk_places(room)]?;
         match full_walk(&self.recorder, entries.as_mut_slice()) {
             Ok(count) => {
-                let walked = Walked(&entries.as_slice()[0..count]);
+                entries.truncate(count);
+                let walked = Walked(entries.as_slice());
                 writeln!(out, "{line} {walked}")?;
             }
             Err(refusal) => {
