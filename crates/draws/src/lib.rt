@@ -5,3 +5,5 @@ pub mod fill;
 pub mod run;
 pub mod strip;
 pub mod tagged;
+#[cfg(test)]
+mod tests;

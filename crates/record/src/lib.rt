@@ -3,6 +3,7 @@ pub mod account;
 mod account_calls;
 pub mod layer;
 pub mod node;
+pub mod owner;
 pub mod props;
 pub mod read;
 pub mod record;

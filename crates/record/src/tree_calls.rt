@@ -6,12 +6,13 @@ ghost use Prim.Native.Nat.{_+_, _<_};
 ghost use lib.ListN.{length};
 ghost use Rattle.std.specs.Options.{Cases};
 ghost use Rattle.std.specs.declared.option.Option.the-variants.{Some};
-ghost use Rattle.record.specs.Table.{same, joins, lengthen, hang, withLayer};
+ghost use Rattle.record.specs.Table.{joins, lengthen, hang, withLayer};
 ghost use Rattle.record.specs.Tree.{treeOf, layersOf, emptyTree, withNodes, treeAfterDraw, treeAfterOpening, treeAfterClosing, recordedOpen, recordedClosed, placedKind, changeAt, withFilters};
 use crate::layer::ClosedLayer;
 use crate::layer::RecordedLayer;
 use crate::layer::RecordedLayerKind;
 use crate::node::Node;
+use crate::owner::same_owner;
 use crate::props::LayerProps;
 use crate::tree::LayerTable;
 use crate::tree::Tree;
@@ -19,17 +20,6 @@ use draws::blend::BlendMode;
 use filter::data::FilterData;
 use filter::placement::FilterLayerPlacement;
 use geometry::rect::RectU16;
-
-// Whether two owners are the same.
-pub fn same_owner(a: Option<u32>, b: Option<u32>) -> bool
-    ensures { λ r. ⌜ r ≡ same a b ⌝ }
-{
-    match (a, b) {
-        (None, None) => true,
-        (Some(x), Some(y)) => x == y,
-        _ => false,
-    }
-}
 
 // A layer as its opening records it.
 pub(crate) fn recorded_open(

@@ -1,3 +1,3 @@
-// The walks over a recording.
+// Walks over a recording.
 pub mod full;
 pub mod listed;

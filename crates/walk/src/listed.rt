@@ -1,4 +1,4 @@
-// An entry of a walk.
+// One entry of a walk, with the number of its draw or layer.
 #[derive(Clone, Copy, Debug, PartialEq, Eq)]
 pub enum Listed {
     Draw(u32),
