@@ -1,0 +1,34 @@
+// The calls of a script.
+use filter::data::FilterData;
+use filter::data::FilterDataDebug;
+use record::props::LayerProps;
+use record::props::LayerPropsDebug;
+use refusal::Refusal;
+use refusal::RefusalDebug;
+
+#[derive(Clone, Copy, Debug)]
+pub enum Call<D> {
+    Reset {
+        width: u16,
+        height: u16,
+    },
+    // The draw to push, or why there is no such draw.
+    Draw(Result<D, Refusal>),
+    Open {
+        props: LayerProps,
+        filter: Option<FilterData>,
+    },
+    Close,
+    // The full walk, into a list of `room` places or of just enough.
+    Walk {
+        room: Option<u32>,
+    },
+    Report,
+}
+
+// A call and the number of its line, counted from 1.
+#[derive(Clone, Copy, Debug)]
+pub struct Line<D> {
+    pub number: u32,
+    pub call: Call<D>,
+}

@@ -1,0 +1,73 @@
+// The kinds of draw, as a script writes them.
+use crate::fault::Reason;
+use crate::words::Words;
+use draws::blend::BlendMode;
+use draws::drawable::Drawable;
+use draws::fill::Fill;
+use draws::fill::FillDrawable;
+use draws::run::Run;
+use draws::run::RunDrawable;
+use geometry::rect::RectU16;
+use refusal::Refusal;
+
+// A sheet holds draws of one kind.
+#[derive(Clone, Copy, Debug, PartialEq, Eq)]
+pub enum Kind {
+    Fill,
+    Run,
+}
+
+pub trait DrawLine: Drawable + Clone + Copy {
+    // What stands in a draw list where no draw is recorded yet.
+    fn blank() -> Self;
+
+    // The draw of a line that begins with `word`, or why there is no such draw.
+    fn read(word: &str, words: &mut Words<'_>) -> Result<Result<Self, Refusal>, Reason>;
+}
+
+pub fn read_rect(words: &mut Words<'_>) -> Result<RectU16, Reason> {
+    let x0 = words.number16()?;
+    let y0 = words.number16()?;
+    let x1 = words.number16()?;
+    let y1 = words.number16()?;
+    Ok(RectU16::new(x0, y0, x1, y1))
+}
+
+pub fn read_mode(words: &mut Words<'_>) -> Result<Option<BlendMode>, Reason> {
+    if !words.take("mode") {
+        return Ok(None);
+    }
+    let mix = words.number8()?;
+    let compose = words.number8()?;
+    Ok(Some(BlendMode { mix, compose }))
+}
+
+pub impl DrawLine for Fill as FillDrawLine {
+    fn blank() -> Fill {
+        Fill::new(RectU16::ZERO, None).unwrap()
+    }
+
+    fn read(word: &str, words: &mut Words<'_>) -> Result<Result<Fill, Refusal>, Reason> {
+        if word != "fill" {
+            return Err(Reason::RunAmongFills);
+        }
+        let rect = read_rect(words)?;
+        let mode = read_mode(words)?;
+        Ok(Fill::new(rect, mode))
+    }
+}
+
+pub impl DrawLine for Run as RunDrawLine {
+    fn blank() -> Run {
+        Run { start: 0, end: 0 }
+    }
+
+    fn read(word: &str, words: &mut Words<'_>) -> Result<Result<Run, Refusal>, Reason> {
+        if word != "run" {
+            return Err(Reason::FillAmongRuns);
+        }
+        let start = words.number32()?;
+        let end = words.number32()?;
+        Ok(Ok(Run { start, end }))
+    }
+}

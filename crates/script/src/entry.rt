@@ -1,0 +1,97 @@
+// What one line of a script says.
+use crate::call::Call;
+use crate::call::CallClone;
+use crate::draw_line::DrawLine;
+use crate::draw_line::Kind;
+use crate::fault::Reason;
+use crate::open::read_filter;
+use crate::open::read_props;
+use crate::words::Words;
+use draws::strip::Strip;
+
+#[derive(Clone, Copy)]
+pub enum Entry<D> {
+    Kind(Kind),
+    Strip(Strip),
+    Places(u32),
+    Call(Call<D>),
+}
+
+pub fn read_kind(words: &mut Words<'_>) -> Result<Kind, Reason> {
+    match words.next_word() {
+        Some("fill") => Ok(Kind::Fill),
+        Some("run") => Ok(Kind::Run),
+        _ => Err(Reason::UnknownKind),
+    }
+}
+
+fn read_strip(words: &mut Words<'_>) -> Result<Strip, Reason> {
+    let x = words.number16()?;
+    let y = words.number16()?;
+    let width = words.number16()?;
+    Ok(Strip { x, y, width })
+}
+
+fn read_room(words: &mut Words<'_>) -> Result<Option<u32>, Reason> {
+    if !words.take("room") {
+        return Ok(None);
+    }
+    Ok(Some(words.number32()?))
+}
+
+fn read_reset<D>(words: &mut Words<'_>) -> Result<Call<D>, Reason> {
+    let width = words.number16()?;
+    let height = words.number16()?;
+    Ok(Call::Reset { width, height })
+}
+
+fn read_open<D>(words: &mut Words<'_>) -> Result<Call<D>, Reason> {
+    let props = read_props(words)?;
+    let filter = read_filter(words)?;
+    Ok(Call::Open { props, filter })
+}
+
+fn read_call<D: DrawLine>(word: &str, words: &mut Words<'_>) -> Result<Call<D>, Reason> {
+    match word {
+        "reset" => read_reset(words),
+        "fill" | "run" => Ok(Call::Draw(D::read(word, words)?)),
+        "open" => read_open(words),
+        "close" => Ok(Call::Close),
+        "walk" => Ok(Call::Walk {
+            room: read_room(words)?,
+        }),
+        "report" => Ok(Call::Report),
+        _ => Err(Reason::UnknownWord),
+    }
+}
+
+fn read_parts<D: DrawLine>(word: &str, words: &mut Words<'_>) -> Result<Entry<D>, Reason> {
+    match word {
+        "kind" => Ok(Entry::Kind(read_kind(words)?)),
+        "strip" => Ok(Entry::Strip(read_strip(words)?)),
+        "places" => Ok(Entry::Places(words.number32()?)),
+        _ => Ok(Entry::Call(read_call(word, words)?)),
+    }
+}
+
+// The words of a line that says something: not of one without a word, nor of a comment.
+pub fn words_of(bytes: &[u8]) -> Result<Option<(&str, Words<'_>)>, Reason> {
+    let Ok(text) = std::str::from_utf8(bytes) else {
+        return Err(Reason::NotText);
+    };
+    let mut words = Words::new(text);
+    match words.next_word() {
+        Some(word) if !word.starts_with('#') => Ok(Some((word, words))),
+        _ => Ok(None),
+    }
+}
+
+// What a line says; nothing where it is passed over.
+pub fn read_entry<D: DrawLine>(bytes: &[u8]) -> Result<Option<Entry<D>>, Reason> {
+    let Some((word, mut words)) = words_of(bytes)? else {
+        return Ok(None);
+    };
+    let entry = read_parts(word, &mut words)?;
+    words.end()?;
+    Ok(Some(entry))
+}

@@ -1,0 +1,11 @@
+// What a script means: its bytes go in, and the sheet that it asks for comes out, or its first fault.
+pub mod call;
+pub mod draw_line;
+mod entry;
+pub mod fault;
+mod lines;
+mod numbers;
+mod open;
+pub mod script;
+pub mod sheet;
+mod words;

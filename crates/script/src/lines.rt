@@ -1,0 +1,76 @@
+// The lines of a script, as bytes.
+ghost use mathlib.Core.Path.{_≡_};
+ghost use Prim.Native.Nat.{ℕ, _≤_, _<_};
+ghost use lib.ListN.{length, getD};
+
+// A line without the LF or CR LF that ends it, and its number, counted from 1.
+#[derive(Clone, Copy)]
+pub struct TextLine<'a> {
+    pub number: u64,
+    pub bytes: &'a [u8],
+}
+
+// What is left of a script, and how many lines were taken from it.
+#[derive(Clone, Copy)]
+pub struct Lines<'a> {
+    rest: &'a [u8],
+    taken: u64,
+}
+
+impl<'a> Lines<'a> {
+    pub fn new(bytes: &'a [u8]) -> Lines<'a> {
+        Lines {
+            rest: bytes,
+            taken: 0,
+        }
+    }
+}
+
+// How many bytes stand before the first LF; all of them where there is none.
+fn line_len(bytes: &[u8]) -> usize
+    ensures within { λ r. ⌜ r ≤ length (now (bytes .entry)) ⌝ }
+    ensures before { λ r. ⌜ ((i : ℕ) → i < r → getD (now (bytes .entry)) i 0 ≡ 10 → ⊥) ⌝ }
+    ensures found { λ r. ⌜ (r < length (now (bytes .entry)) → getD (now (bytes .entry)) r 0 ≡ 10) ⌝ }
+{
+    for (i, byte) in bytes.iter().enumerate() {
+        if *byte == b'\n' {
+            return i;
+        }
+    }
+    bytes.len()
+}
+
+// A CR belongs to the line's end only where an LF follows it.
+fn without_return(line: &[u8]) -> &[u8] {
+    match line {
+        [front @ .., b'\r'] => front,
+        _ => line,
+    }
+}
+
+pub impl<'a> Iterator for Lines<'a> as LinesIterator {
+    type Item = TextLine<'a>;
+
+    ghost ends = { λ _. Unit {0} };
+
+    ghost left = { λ s. length (s .rest .now) };
+
+    fn next(&mut self) -> Option<TextLine<'a>> {
+        if self.rest.is_empty() {
+            return None;
+        }
+        let (line, after) = self.rest.split_at(line_len(self.rest));
+        self.taken = self.taken.saturating_add(1);
+        let number = self.taken;
+        match after {
+            [] => {
+                self.rest = after;
+                Some(TextLine { number, bytes: line })
+            }
+            [_, rest @ ..] => {
+                self.rest = rest;
+                Some(TextLine { number, bytes: without_return(line) })
+            }
+        }
+    }
+}

@@ -1,0 +1,97 @@
+// The opening of a layer, as a script writes it. Its parts stand in one order, and each may be left out.
+use crate::draw_line::read_mode;
+use crate::draw_line::read_rect;
+use crate::fault::Reason;
+use crate::words::Words;
+use draws::blend::BlendMode;
+use filter::data::FilterData;
+use geometry::padding::PaddingU16;
+use record::props::LayerClip;
+use record::props::LayerProps;
+use record::props::StripRange;
+
+// Full opacity where none is written.
+fn read_opacity(words: &mut Words<'_>) -> Result<f32, Reason> {
+    if !words.take("opacity") {
+        return Ok(1.0);
+    }
+    match words.next_word() {
+        Some(word) => match word.parse::<f32>() {
+            Ok(opacity) => Ok(opacity),
+            Err(_) => Err(Reason::NotAnOpacity),
+        },
+        None => Err(Reason::NumberMissing),
+    }
+}
+
+fn read_mask(words: &mut Words<'_>) -> Result<Option<u32>, Reason> {
+    if !words.take("mask") {
+        return Ok(None);
+    }
+    Ok(Some(words.number32()?))
+}
+
+// The strips of a clip path and the list that holds them; none of list 0 where none is written.
+fn read_path(words: &mut Words<'_>) -> Result<(StripRange, u8), Reason> {
+    if !words.take("path") {
+        return Ok((StripRange { start: 0, end: 0 }, 0));
+    }
+    let start = words.number32()?;
+    let end = words.number32()?;
+    let thread_idx = words.number8()?;
+    Ok((StripRange { start, end }, thread_idx))
+}
+
+fn read_clip(words: &mut Words<'_>) -> Result<Option<LayerClip>, Reason> {
+    if !words.take("clip") {
+        return Ok(None);
+    }
+    let bbox = read_rect(words)?;
+    let (strip_range, thread_idx) = read_path(words)?;
+    Ok(Some(LayerClip {
+        strip_range,
+        thread_idx,
+        bbox,
+    }))
+}
+
+pub fn read_props(words: &mut Words<'_>) -> Result<LayerProps, Reason> {
+    let blend_mode = read_mode(words)?.unwrap_or(BlendMode::DEFAULT);
+    let opacity = read_opacity(words)?;
+    let mask = read_mask(words)?;
+    let clip_path = read_clip(words)?;
+    Ok(LayerProps {
+        blend_mode,
+        opacity,
+        mask,
+        clip_path,
+    })
+}
+
+fn read_padding(words: &mut Words<'_>) -> Result<PaddingU16, Reason> {
+    let left = words.number16()?;
+    let top = words.number16()?;
+    let right = words.number16()?;
+    let bottom = words.number16()?;
+    Ok(PaddingU16::new(left, top, right, bottom))
+}
+
+pub fn read_filter(words: &mut Words<'_>) -> Result<Option<FilterData>, Reason> {
+    if !words.take("filter") {
+        return Ok(None);
+    }
+    let filter = words.number32()?;
+    if !words.take("pad") {
+        return Err(Reason::PadMissing);
+    }
+    let filter_padding = read_padding(words)?;
+    if !words.take("source") {
+        return Err(Reason::SourceMissing);
+    }
+    let source_padding = read_padding(words)?;
+    Ok(Some(FilterData {
+        filter,
+        filter_padding,
+        source_padding,
+    }))
+}

@@ -1,0 +1,82 @@
+// A script as a whole.
+use crate::draw_line::DrawLine;
+use crate::draw_line::FillDrawLine;
+use crate::draw_line::Kind;
+use crate::draw_line::RunDrawLine;
+use crate::entry::Entry;
+use crate::entry::read_entry;
+use crate::entry::read_kind;
+use crate::entry::words_of;
+use crate::fault::Fault;
+use crate::fault::Reason;
+use crate::fault::Unread;
+use crate::fault::UnreadFromAlloc;
+use crate::lines::Lines;
+use crate::lines::LinesIterator;
+use crate::lines::TextLine;
+use crate::sheet::Sheet;
+use draws::fill::Fill;
+use draws::run::Run;
+use std::alloc::Global;
+
+// A sheet holds draws of one kind.
+#[derive(Drop)]
+pub enum Script {
+    Fills(Sheet<Fill>),
+    Runs(Sheet<Run>),
+}
+
+// The kind that the first line which is not passed over gives; fills where it gives none.
+fn sheet_kind(bytes: &[u8]) -> Kind {
+    for line in Lines::new(bytes) {
+        match words_of(line.bytes) {
+            Ok(None) => {}
+            Ok(Some(("kind", mut words))) => return read_kind(&mut words).unwrap_or(Kind::Fill),
+            _ => return Kind::Fill,
+        }
+    }
+    Kind::Fill
+}
+
+// What a line says, if the lines before it allow that, and its number.
+fn checked_entry<D: DrawLine>(
+    sheet: &Sheet<D>,
+    line: TextLine<'_>,
+) -> Result<Option<(u32, Entry<D>)>, Reason> {
+    let Some(entry) = read_entry(line.bytes)? else {
+        return Ok(None);
+    };
+    sheet.allows(&entry)?;
+    match u32::try_from(line.number) {
+        Ok(number) => Ok(Some((number, entry))),
+        Err(_) => Err(Reason::TooManyLines),
+    }
+}
+
+fn read_line<D: DrawLine>(sheet: &mut Sheet<D>, line: TextLine<'_>) -> Result<(), Unread> {
+    match checked_entry(sheet, line) {
+        Ok(Some((number, entry))) => sheet.add(number, entry)?,
+        Ok(None) => {}
+        Err(reason) => {
+            let line = line.number;
+            return Err(Unread::Faulty(Fault { line, reason }));
+        }
+    }
+    Ok(())
+}
+
+fn read_sheet<D: DrawLine>(heap: Global, bytes: &[u8]) -> Result<Sheet<D>, Unread> {
+    let mut sheet = Sheet::new(heap);
+    for line in Lines::new(bytes) {
+        read_line(&mut sheet, line)?;
+    }
+    Ok(sheet)
+}
+
+// The sheet that the script asks for, or the first line that is faulty.
+pub fn read_script(heap: Global, bytes: &[u8]) -> Result<Script, Unread> {
+    match sheet_kind(bytes) {
+        Kind::Fill => Ok(Script::Fills(read_sheet(heap, bytes)?)),
+        Kind::Run => Ok(Script::Runs(read_sheet(heap, bytes)?)),
+    }
+}

@@ -1,0 +1,163 @@
+// A recorder and the lists that its calls are made on.
+use crate::answer::Answer;
+use crate::answer::AnswerDisplay;
+use crate::answer::Refused;
+use crate::answer::RefusedDisplay;
+use crate::answer::Walked;
+use crate::answer::WalkedDisplay;
+use crate::failure::Failure;
+use crate::failure::FailureFromAlloc;
+use crate::failure::FailureFromIo;
+use crate::report::Report;
+use crate::report::ReportDisplay;
+use draws::strip::Strip;
+use draws::tagged::Tagged;
+use draws::tagged::TaggedDrawable;
+use filter::data::FilterData;
+use record::account::MAX_DRAWS;
+use record::props::LayerProps;
+use record::recorder::CommandRecorder;
+use refusal::Refusal;
+use script::call::Call;
+use script::call::Line;
+use script::draw_line::DrawLine;
+use script::sheet::Sheet;
+use std::alloc::AllocError;
+use std::alloc::Global;
+use std::io;
+use std::io::Write;
+use walk::full::full_walk;
+use walk::listed::Listed;
+use draws::tagged::TaggedClone;
+
+#[derive(Drop)]
+struct Stage<'a, D> {
+    heap: Global,
+    recorder: CommandRecorder,
+    draws: Vec<Tagged<D>>,
+    strips: &'a [Strip],
+}
+
+// How many places the draw list gets: as many as the script says, or one for each of its draw lines.
+// A recorder takes no more than MAX_DRAWS draws, so that further places are never read or written.
+fn draw_places<D>(sheet: &Sheet<D>) -> usize {
+    let places = match sheet.places {
+        Some(places) => places as usize,
+        None => sheet.draw_lines,
+    };
+    places.min(MAX_DRAWS as usize)
+}
+
+impl<'a, D: DrawLine> Stage<'a, D> {
+    fn new(heap: Global, sheet: &'a Sheet<D>) -> Result<Stage<'a, D>, AllocError> {
+        let blank = Tagged {
+            draw: D::blank(),
+            line: 0,
+        };
+        Ok(Stage {
+            heap,
+            recorder: CommandRecorder::new(),
+            draws: vec![in heap; blank; draw_places(sheet)]?,
+            strips: sheet.strips.as_slice(),
+        })
+    }
+
+    fn reset(&mut self, width: u16, height: u16) -> Result<Answer, Refusal> {
+        self.recorder.reset(width, height)?;
+        Ok(Answer::Reset(self.recorder.scene_size()))
+    }
+
+    fn draw(&mut self, draw: Result<D, Refusal>, line: u32) -> Result<Answer, Refusal> {
+        let tagged = Tagged { draw: draw?, line };
+        let number = self.recorder.push_draw(tagged, self.draws.as_mut_slice(), self.strips)?;
+        Ok(Answer::Draw(number))
+    }
+
+    fn open(&mut self, props: LayerProps, filter: Option<FilterData>) -> Result<Answer, Refusal> {
+        let layer = self.recorder.push_layer(props, filter)?;
+        Ok(Answer::Enter(layer))
+    }
+
+    fn close(&mut self) -> Result<Answer, Refusal> {
+        let Some(layer) = self.recorder.active_layer() else {
+            return Err(Refusal::NoLayerOpen);
+        };
+        let kind = self.recorder.pop_layer()?;
+        Ok(Answer::Leave(layer, kind))
+    }
+
+    // A walk lists each draw once and each layer twice, so that further places stay as they are.
+    fn walk_places(&self, room: Option<u32>) -> usize {
+        let entries = self.recorder.draw_count() as usize + 2 * self.recorder.layer_count() as usize;
+        match room {
+            Some(room) => entries.min(room as usize),
+            None => entries,
+        }
+    }
+    fn print_walk<W: Write>(&self, out: &mut W, line: u32, room: Option<u32>) -> Result<(), Failure> {
+        let mut entries = vec![in self.heap; Listed::Draw(0); self.walk_places(room)]?;
+        match full_walk(&self.recorder, entries.as_mut_slice()) {
+            Ok(count) => {
+                entries.truncate(count);
+                let walked = Walked(entries.as_slice());
+                writeln!(out, "{line} {walked}")?;
+            }
+            Err(refusal) => {
+                let refused = Refused(refusal);
+                writeln!(out, "{line} {refused}")?;
+            }
+        }
+        Ok(())
+    }
+
+    fn print_report<W: Write>(&self, out: &mut W, line: u32) -> io::Result<()> {
+        let report = Report {
+            line,
+            recorder: &self.recorder,
+        };
+        writeln!(out, "{report}")
+    }
+
+    // Makes a line's call, and prints what it answers.
+    fn make<W: Write>(&mut self, out: &mut W, line: &Line<D>) -> Result<(), Failure> {
+        let number = line.number;
+        match line.call {
+            Call::Reset { width, height } => {
+                print_answer(out, number, self.reset(width, height))?;
+            }
+            Call::Draw(draw) => print_answer(out, number, self.draw(draw, number))?,
+            Call::Open { props, filter } => print_answer(out, number, self.open(props, filter))?,
+            Call::Close => print_answer(out, number, self.close())?,
+            Call::Walk { room } => self.print_walk(out, number, room)?,
+            Call::Report => self.print_report(out, number)?,
+        }
+        Ok(())
+    }
+}
+
+fn print_answer<W: Write>(
+    out: &mut W,
+    line: u32,
+    answer: Result<Answer, Refusal>,
+) -> io::Result<()> {
+    match answer {
+        Ok(answer) => writeln!(out, "{line} {answer}"),
+        Err(refusal) => {
+            let refused = Refused(refusal);
+            writeln!(out, "{line} {refused}")
+        }
+    }
+}
+
+// Makes the calls of a sheet one after another on a new recorder.
+pub fn run_sheet<D: DrawLine, W: Write>(
+    heap: Global,
+    sheet: &Sheet<D>,
+    out: &mut W,
+) -> Result<(), Failure> {
+    let mut stage = Stage::new(heap, sheet)?;
+    for line in sheet.lines.iter() {
+        stage.make(out, line)?;
+    }
+    Ok(())
+}
