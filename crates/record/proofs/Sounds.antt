@@ -42,7 +42,7 @@ sound-at {a} {b} {t} {u} e f w =
 pub sound-empty : (scene : SizeU16) → Sound (emptyAccount scene) emptyTree
 sound-empty scene = (
   (omega arith, refl, omega arith),
-  ∣ record { threads = record { chained = tt; ends = refl; holds = refl; found = tt; inside = refl; falls = tt }; unclosed = tt } ∣₁,
+  ∣ record { threads = record { chained = tt; ends = refl; holds = refl; numbered = tt; found = tt; inside = refl; falls = tt }; unclosed = tt } ∣₁,
 )
 
 pub ids-takeIn : (b : Option RectU16) (opened : List OpenLayer) → ids (takeIn b opened) ≡ ids opened
@@ -64,6 +64,7 @@ module _ (s : List ℕ) (n l : ℕ) where
     chained = (w .chained .0, omega (arith, w .chained .1, w .ends), w .chained .2);
     ends = refl;
     holds = w .holds;
+    numbered = w .numbered;
     found = w .found;
     inside = w .inside;
     falls = w .falls;
@@ -74,6 +75,7 @@ module _ (s : List ℕ) (n l : ℕ) where
     chained = (sym (w .ends), omega arith, w .chained);
     ends = refl;
     holds = omega (arith, w .holds);
+    numbered = (tt, w .numbered);
     found = (ap top (w .inside), w .found);
     inside = rw (w .inside) (seek-self s);
     falls = falls-seek l (top s) (spine nodes) (w .falls);
@@ -103,6 +105,7 @@ module _ (s : List ℕ) (n l : ℕ) where
         chained = w .chained;
         ends = w .ends;
         holds = omega (arith, w .holds, h);
+        numbered = (omega (arith, w .holds, h), w .numbered .1);
         found = w .found;
         inside = seek-self (l ∷ seek (x .owner) (spine older)) ∙ ap (λ q. l ∷ q) here;
         falls = (omega arith, rw none at (w .falls));
@@ -113,6 +116,7 @@ module _ (s : List ℕ) (n l : ℕ) where
     chained = (sym (w .ends), omega arith, w .chained);
     ends = refl;
     holds = omega (arith, w .holds);
+    numbered = (sym (w .holds), w .numbered);
     found = (ap top (w .inside), w .found);
     inside = seek-self (l ∷ seek (top s) (spine nodes)) ∙ ap (λ q. l ∷ q) (w .inside);
     falls = (omega arith, falls-seek l (top s) (spine nodes) (w .falls));
@@ -127,6 +131,7 @@ module _ (s : List ℕ) (n l : ℕ) where
     chained = w .chained;
     ends = w .ends;
     holds = w .holds;
+    numbered = w .numbered;
     found = w .found;
     inside = seek-outer l c (spine nodes) s (w .falls) (w .inside);
     falls = w .falls;

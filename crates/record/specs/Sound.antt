@@ -11,7 +11,7 @@ use Rattle.record.specs.declared.layer.RecordedLayerKind.the-variants.{Regular
 use Rattle.record.specs.declared.node.Node.{Node}
 use Rattle.record.specs.Account.{AccountView, ids}
 use Rattle.record.specs.Nesting.{seek, spine, Found, Falls}
-use Rattle.record.specs.Table.{top, joint, spanEnd, Chained, held}
+use Rattle.record.specs.Table.{top, joint, spanEnd, Chained, held, Numbered}
 use Rattle.record.specs.Tree.{TreeView}
 
 -- Each layer adds two nodes at the most, an open one has not had its second yet, and the last node may be the active layer's own.
@@ -41,8 +41,9 @@ pub record Threads (nodes : List Node) (s : List ℕ) (n l : ℕ) : Type 0 where
   -- the nodes' draws are in order, and end at the latest draw
   pub chained : Chained nodes
   pub ends : spanEnd nodes ≡ n
-  -- each layer is some node's
+  -- each layer is one node's, in the order of their numbers
   pub holds : held nodes ≡ l
+  pub numbered : Numbered nodes
   -- each node's owner had been entered and not left when the node was made, and the open layers are not left
   pub found : Found nodes
   pub inside : seek (top s) (spine nodes) ≡ s

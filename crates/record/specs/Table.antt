@@ -71,6 +71,15 @@ abbrev pub held : List Node → ℕ
 held [] = 0
 held (x ∷ older) = holding (x .layer) + held older
 
+abbrev pub NumberedIs : Option ℕ → ℕ → Type 0
+NumberedIs None n = Unit {0}
+NumberedIs (Some l) n = l ≡ n
+
+-- the layers stand in the nodes in the order of their numbers, from 0
+abbrev pub Numbered : List Node → Type 0
+Numbered [] = Unit {0}
+Numbered (x ∷ older) = NumberedIs (x .layer) (held older) × Numbered older
+
 abbrev pub lengthen : ℕ → List Node → List Node
 lengthen b [] = []
 lengthen b (x ∷ older) = node (x .start) b (x .layer) (x .owner) ∷ older

@@ -65,11 +65,17 @@ pub impl<'a> Iterator for Lines<'a> as LinesIterator {
         match after {
             [] => {
                 self.rest = after;
-                Some(TextLine { number, bytes: line })
+                Some(TextLine {
+                    number,
+                    bytes: line,
+                })
             }
             [_, rest @ ..] => {
                 self.rest = rest;
-                Some(TextLine { number, bytes: without_return(line) })
+                Some(TextLine {
+                    number,
+                    bytes: without_return(line),
+                })
             }
         }
     }

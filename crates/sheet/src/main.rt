@@ -10,14 +10,14 @@ use failure::FailureDisplay;
 use failure::FailureFromAlloc;
 use failure::FailureFromIo;
 use failure::FailureFromUnread;
+use script::draw_line::FillDrawLine;
+use script::draw_line::RunDrawLine;
 use script::script::Script;
 use script::script::read_script;
 use stage::run_sheet;
 use std::io::BufWriter;
 use std::io::Read;
 use std::io::Write;
-use script::draw_line::FillDrawLine;
-use script::draw_line::RunDrawLine;
 
 // Every fault of the script is found before its first call is made.
 fn run(rt: &LibcRuntime) -> Result<(), Failure> {

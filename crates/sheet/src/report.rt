@@ -105,7 +105,11 @@ impl fmt::Display for KindPart as KindPartDisplay {
 
 // The bits of an opacity. A recorded opacity is a number from 0 to 1.
 fn opacity_bits(opacity: f32) -> u32 {
-    if opacity.is_nan() { 0 } else { opacity.to_bits() }
+    if opacity.is_nan() {
+        0
+    } else {
+        opacity.to_bits()
+    }
 }
 
 // What a layer was opened with.
@@ -140,7 +144,10 @@ impl Report<'_> {
         let depth = self.recorder.max_layer_depth();
         let largest = Shown(self.recorder.largest_layer_size());
         let largest_filter = Shown(self.recorder.largest_filter_layer_size());
-        writeln!(f, "{line} flags root_is_blend_target={root} has_non_default_blend={blend}")?;
+        writeln!(
+            f,
+            "{line} flags root_is_blend_target={root} has_non_default_blend={blend}"
+        )?;
         writeln!(f, "{line} depth {depth}")?;
         writeln!(f, "{line} largest_layer {largest}")?;
         writeln!(f, "{line} largest_filter_layer {largest_filter}")
@@ -172,7 +179,10 @@ impl Report<'_> {
         let kind = KindPart(*layer);
         let props = PropsPart(layer.props);
         let nodes = self.nodes_of(Some(id));
-        write!(f, "\n{line} layer {id} depth {depth} {kind} {props} nodes{nodes}")
+        write!(
+            f,
+            "\n{line} layer {id} depth {depth} {kind} {props} nodes{nodes}"
+        )
     }
 }
 

@@ -12,6 +12,7 @@ use crate::report::Report;
 use crate::report::ReportDisplay;
 use draws::strip::Strip;
 use draws::tagged::Tagged;
+use draws::tagged::TaggedClone;
 use draws::tagged::TaggedDrawable;
 use filter::data::FilterData;
 use record::account::MAX_DRAWS;
@@ -28,7 +29,6 @@ use std::io;
 use std::io::Write;
 use walk::full::full_walk;
 use walk::listed::Listed;
-use draws::tagged::TaggedClone;
 
 #[derive(Drop)]
 struct Stage<'a, D> {
@@ -69,7 +69,8 @@ impl<'a, D: DrawLine> Stage<'a, D> {
 
     fn draw(&mut self, draw: Result<D, Refusal>, line: u32) -> Result<Answer, Refusal> {
         let tagged = Tagged { draw: draw?, line };
-        let number = self.recorder.push_draw(tagged, self.draws.as_mut_slice(), self.strips)?;
+        let number = self.recorder
+            .push_draw(tagged, self.draws.as_mut_slice(), self.strips)?;
         Ok(Answer::Draw(number))
     }
 
@@ -88,13 +89,20 @@ impl<'a, D: DrawLine> Stage<'a, D> {
 
     // A walk lists each draw once and each layer twice, so that further places stay as they are.
     fn walk_places(&self, room: Option<u32>) -> usize {
-        let entries = self.recorder.draw_count() as usize + 2 * self.recorder.layer_count() as usize;
+        let entries = self.recorder.draw_count() as usize
+            + 2 * self.recorder.layer_count() as usize;
         match room {
             Some(room) => entries.min(room as usize),
             None => entries,
         }
     }
-    fn print_walk<W: Write>(&self, out: &mut W, line: u32, room: Option<u32>) -> Result<(), Failure> {
+
+    fn print_walk<W: Write>(
+        &self,
+        out: &mut W,
+        line: u32,
+        room: Option<u32>,
+    ) -> Result<(), Failure> {
         let mut entries = vec![in self.heap; Listed::Draw(0); self.walk_places(room)]?;
         match full_walk(&self.recorder, entries.as_mut_slice()) {
             Ok(count) => {
