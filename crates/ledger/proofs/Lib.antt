@@ -1,0 +1,5 @@
+pub mod Spines
+pub mod Shown
+pub mod Ledgers
+pub mod Closes
+pub mod Keeps

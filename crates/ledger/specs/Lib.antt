@@ -1,0 +1,4 @@
+pub mod Ledger
+pub mod Runs
+pub mod Made
+pub mod Laws

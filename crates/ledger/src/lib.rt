@@ -1,0 +1,3 @@
+// Whole runs of calls, and what holds of them.
+pub mod call;
+pub mod replay;
