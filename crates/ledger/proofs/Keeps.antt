@@ -16,6 +16,7 @@ use Rattle.geometry.specs.declared.rect.RectU16.{RectU16}
 use Rattle.geometry.specs.declared.size.SizeU16.{SizeU16}
 use Rattle.draws.specs.declared.blend.BlendMode.{BlendMode}
 use Rattle.filter.specs.declared.data.FilterData.{FilterData}
+use Rattle.record.specs.declared.layer.OpenLayer.{OpenLayer}
 use Rattle.record.specs.declared.node.Node.{Node}
 use Rattle.record.specs.declared.props.LayerProps.{LayerProps}
 use Rattle.record.specs.Account.{ids, outer, accountAfterClosing, sceneOf}
@@ -36,6 +37,7 @@ use Rattle.ledger.specs.Made.{Made, afterCall, written}
 use Rattle.ledger.specs.Runs.{afterEntry, recordedFrom, recorded, questions, AnsweredBy, Answered, AllAnswered}
 use Rattle.ledger.proofs.Closes.{Closes, closes}
 use Rattle.ledger.proofs.Ledgers.{draws-push, layers-push, open-push, each-push, each-weaker, StandsBefore, stands-on, stands-new, stands-plain, ledger-push}
+use Rattle.ledger.proofs.Nesteds.{Nested, nested-none, nested-draw, nested-open, nested-close, nested-sheet}
 use Rattle.ledger.proofs.Shown.{Shown, shown-lengthen, shown-draw, shown-hang, shown-layer, shown-close, shown-none, shown-all}
 
 module _ {D : Type 0} (boxOf : D → Option RectU16) (modeOf : D → Option BlendMode) where
@@ -48,6 +50,7 @@ module _ {D : Type 0} (boxOf : D → Option RectU16) (modeOf : D → Option Blen
     pub draws : drawsIn es ≡ v .account .drawn
     pub layers : layersIn es ≡ v .account .layers
     pub stands : Each (StandsBefore (v .account .drawn) ds) es
+    pub nested : Nested boxOf modeOf es v
 
   pub keeps-none : (scene : SizeU16) (ds : List D) → Keeps scene [] (emptyRecording scene) ds
   keeps-none scene ds = record {
@@ -58,6 +61,7 @@ module _ {D : Type 0} (boxOf : D → Option RectU16) (modeOf : D → Option Blen
     draws = refl;
     layers = refl;
     stands = tt;
+    nested = nested-none boxOf modeOf scene;
   }
 
   recorded-push : (r : Recording) (es : List (Entry D)) (e : Entry D) → recordedFrom boxOf modeOf r (es ++ (e ∷ [])) ≡ afterEntry boxOf modeOf e (recordedFrom boxOf modeOf r es)
@@ -92,6 +96,7 @@ module _ {D : Type 0} (boxOf : D → Option RectU16) (modeOf : D → Option Blen
           draws = omega (arith, draws-push es e, w .draws);
           layers = omega (arith, layers-push es e, w .layers);
           stands = each-push (StandsBefore (n + 1) (set ds n d)) es e stood (rw (w .draws) (stands-new n ds d h));
+          nested = nested-draw boxOf modeOf es v (drawsIn es) d (w .nested);
         }
 
     pub keeps-open : (props : LayerProps) (f : Option FilterData) → Keeps scene (es ++ (Enter (layersIn es) (record { props = props; filter = f }) ∷ [])) (afterOpening props f v) ds
@@ -113,6 +118,7 @@ module _ {D : Type 0} (boxOf : D → Option RectU16) (modeOf : D → Option Blen
           draws = omega (arith, draws-push es e, w .draws);
           layers = omega (arith, layers-push es e, w .layers);
           stands = each-push (StandsBefore n ds) es e (w .stands) tt;
+          nested = nested-open boxOf modeOf es v (layersIn es) props f (w .layers) (w .nested);
         }
 
     pub keeps-close : Closes (v .account .opened) → Keeps scene (closed es (opened es)) (afterClosing v) ds
@@ -138,6 +144,7 @@ module _ {D : Type 0} (boxOf : D → Option RectU16) (modeOf : D → Option Blen
           draws = omega (arith, draws-push es e, w .draws);
           layers = omega (arith, layers-push es e, w .layers);
           stands = each-push (StandsBefore n ds) es e (w .stands) tt;
+          nested = subst (λ z. Nested boxOf modeOf (es ++ (e ∷ [])) z) q (nested-close boxOf modeOf es v k (w .nested));
         } in
         subst (λ z. Keeps scene z (afterClosing v) ds) (sym here) (subst (λ z. Keeps scene (es ++ (e ∷ [])) z ds) (sym q) keeps)
 
@@ -182,12 +189,17 @@ module _ {D : Type 0} (boxOf : D → Option RectU16) (modeOf : D → Option Blen
       subst (λ z. Keeps (z .scene) (z .entries) v′ ds′) (sym x) (subst (λ z. Keeps (b .scene) (b .entries) v′ z) (sym l) (subst (λ z. Keeps (b .scene) (b .entries) z ds) (sym r) w)))
       (cases-bool (accepted a))
 
+  none-open : (opened : List OpenLayer) → ids opened ≡ [] → opened ≡ []
+  none-open [] e = refl
+  none-open (o ∷ os) e = let z : _≡_ {A = ℕ} 0 1 = cc in absurd (omega arith)
+
   -- what is promised of a run
   pub keeps-led : (b : Ledger D) (v : Recording) (ds : List D) → Keeps (b .scene) (b .entries) v ds → Led boxOf modeOf b v ds
   keeps-led b v ds w = record {
     recording = w .is;
     stands = each-weaker (StandsBefore (v .account .drawn) ds) (Stands ds) (stands-plain (v .account .drawn) ds) (b .entries) (w .stands);
     walk = λ none. shown-all (numbers (b .entries)) (v .tree .nodes) (v .account .layers) (subst (λ z. Shown (numbers (b .entries)) (v .tree .nodes) z (v .account .layers)) (sym (w .unclosed) ∙ none) (w .shown));
+    nests = λ none. nested-sheet boxOf modeOf (b .entries) v (none-open (v .account .opened) (sym (w .unclosed) ∙ none)) (w .nested);
   }
 
   -- one more answer

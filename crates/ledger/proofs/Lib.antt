@@ -3,3 +3,5 @@ pub mod Shown
 pub mod Ledgers
 pub mod Closes
 pub mod Keeps
+pub mod Sheets
+pub mod Nesteds

@@ -1,4 +1,5 @@
 pub mod Ledger
 pub mod Runs
 pub mod Made
+pub mod Sheet
 pub mod Laws

@@ -202,7 +202,7 @@ all-change : (g : RecordedLayer → RecordedLayer) (layers : List RecordedLayer)
 all-change g layers [] b c h f u = tt
 all-change g layers (l ∷ s) b c h f u = (unclosed-change g layers l c (omega arith) (u .0), all-change g layers s l c (omega arith) (f .1) (u .1))
 
-length-change : {X : Type 0} (g : X → X) (i : ℕ) (xs : List X) → length (changeAt g i xs) ≡ length xs
+pub length-change : {X : Type 0} (g : X → X) (i : ℕ) (xs : List X) → length (changeAt g i xs) ≡ length xs
 length-change g i [] = refl
 length-change g zero (x ∷ xs) = refl
 length-change g (suc i) (x ∷ xs) = ap suc (length-change g i xs)
