@@ -1,11 +1,36 @@
 // The words of a line.
-ghost use Prim.Native.Nat.{_≤_};
+ghost use mathlib.Core.Path.{_≡_};
+ghost use mathlib.Core.Bool.{false};
+ghost use mathlib.Core.List.{[], _∷_};
+ghost use Prim.Native.Nat.{_≤_, _<_};
+ghost use lib.ListN.{length, getD};
 ghost use Rattle.std.specs.Results.{Cases};
+ghost use Rattle.std.specs.Options.{Cases as BySome};
+ghost use Rattle.script.specs.Words.{blank, ended, wordsOf};
 use crate::fault::Reason;
 use crate::numbers::read_number;
 
 // Words are separated by these and nothing else.
 const BLANKS: [char; 2] = [' ', '\t'];
+
+// The text without the blanks at its front.
+fn skip_blanks(text: &str) -> &str
+    ensures words { λ r. ⌜ wordsOf (now r) ≡ wordsOf (now (text .entry)) ⌝ }
+    ensures dark { λ r. ⌜ (0 < length (now r) → blank (getD (now r) 0 0) ≡ false) ⌝ }
+{
+    text.trim_start_matches(BLANKS)
+}
+
+// The text up to its first blank, and what follows that blank.
+fn cut_word(text: &str) -> (&str, &str)
+    ensures words { λ r. ⌜ wordsOf (now (text .entry)) ≡ ended (now (r .0)) (wordsOf (now (r .1))) ⌝ }
+    ensures some { λ r. ⌜ (0 < length (now (text .entry)) → blank (getD (now (text .entry)) 0 0) ≡ false → 0 < length (now (r .0))) ⌝ }
+{
+    match text.split_once(BLANKS) {
+        Some((word, rest)) => (word, rest),
+        None => (text, ""),
+    }
+}
 
 // What is left of a line.
 #[derive(Clone, Copy)]
@@ -19,12 +44,10 @@ impl<'a> Words<'a> {
     }
 
     // Takes the next word; nothing at the end of the line.
-    pub fn next_word(&mut self) -> Option<&'a str> {
-        let text = self.rest.trim_start_matches(BLANKS);
-        let (word, rest) = match text.split_once(BLANKS) {
-            Some((word, rest)) => (word, rest),
-            None => (text, ""),
-        };
+    pub fn next_word(&mut self) -> Option<&'a str>
+        ensures { λ r. ⌜ BySome r (wordsOf (now (self .entry) .rest .now) ≡ []) (λ w. wordsOf (now (self .entry) .rest .now) ≡ now w ∷ wordsOf (now (self .exit) .rest .now)) ⌝ }
+    {
+        let (word, rest) = cut_word(skip_blanks(self.rest));
         self.rest = rest;
         if word.is_empty() { None } else { Some(word) }
     }
