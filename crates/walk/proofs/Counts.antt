@@ -31,7 +31,7 @@ walk-reverse (x ∷ older) ys f =
     let own : same (x .owner) (top (seek (x .owner) (spine older))) ≡ true = rw (f .0) (same-self (x .owner)) in
     ap (λ z. walk z [] []) r ∙ walk-reverse older (x ∷ ys) (f .1) ∙ rw own refl
 
-length-spanned : (a k : ℕ) → length (spanned a k) ≡ k
+pub length-spanned : (a k : ℕ) → length (spanned a k) ≡ k
 length-spanned a zero = refl
 length-spanned a (suc k) = length-append (spanned a k) (Draw (a + k) ∷ []) ∙ (let e = length-spanned a k in omega arith)
 
