@@ -10,7 +10,7 @@ use Rattle.geometry.specs.declared.rect.RectU16.{RectU16}
 use Rattle.geometry.specs.declared.tile.Tile.{Tile}
 use Rattle.record.specs.declared.layer.RecordedLayer.{RecordedLayer}
 use Rattle.walk.specs.declared.showing.Showing.the-variants.{Hidden}
-use Rattle.walk.specs.Tile.{showing, layerShows, boxShows, drawShows}
+use Rattle.walk.specs.Tile.{showing, layerShows, boxShows, drawShows, filterKind, filterAt}
 
 pub layer-at : (t : Tile) (layers : List RecordedLayer) (l : ℕ) (x : RecordedLayer) → l < length layers → layerShows t layers l ≡ showing t (getD layers l x)
 layer-at t [] l x h = absurd (omega arith)
@@ -21,6 +21,16 @@ pub layer-past : (t : Tile) (layers : List RecordedLayer) (l : ℕ) → length l
 layer-past t [] l h = refl
 layer-past t (y ∷ layers) zero h = absurd (omega arith)
 layer-past t (y ∷ layers) (suc l) h = let le : length layers ≤ l = omega arith in layer-past t layers l le
+
+pub filter-at : (layers : List RecordedLayer) (l : ℕ) (x : RecordedLayer) → l < length layers → filterAt layers l ≡ filterKind (getD layers l x .kind)
+filter-at [] l x h = absurd (omega arith)
+filter-at (y ∷ layers) zero x h = refl
+filter-at (y ∷ layers) (suc l) x h = let lt : l < length layers = omega arith in filter-at layers l x lt
+
+pub filter-past : (layers : List RecordedLayer) (l : ℕ) → length layers ≤ l → filterAt layers l ≡ false
+filter-past [] l h = refl
+filter-past (y ∷ layers) zero h = absurd (omega arith)
+filter-past (y ∷ layers) (suc l) h = let le : length layers ≤ l = omega arith in filter-past layers l le
 
 module _ {D : Type 0} (box : D → Option RectU16) (t : Tile) where
   pub draw-at : (ds : List D) (n : ℕ) (x : D) → n < length ds → x ≡ getD ds n x → drawShows box t ds n ≡ boxShows t (box x)

@@ -7,7 +7,7 @@ use native.Mathlib.Omega.{arith}
 use lib.ListN.{length, length-append}
 use Rattle.std.proofs.shelf.Lists.{append-nil}
 use Rattle.walk.specs.declared.listed.Listed.{Listed}
-use Rattle.walk.specs.declared.listed.Listed.the-variants.{Draw, Enter, Leave}
+use Rattle.walk.specs.declared.listed.Listed.the-variants.{Draw, Enter, Leave, Filter}
 use Rattle.walk.specs.declared.showing.Showing.{Showing}
 use Rattle.walk.specs.declared.showing.Showing.the-variants.{Through, Placed, Hidden}
 use Rattle.walk.specs.Tile.{sift, drawing, entering, deeper}
@@ -96,3 +96,23 @@ module _ (seen : ℕ → Bool) (shows : ℕ → Showing) where
     kept = λ out rest. over l inner rest out v e one p;
     less = omega (arith, length-entering v l);
   }
+
+  -- what the tile shows of entries after which none come
+  pub sieved-all : (whole shown : List Listed) → Sieved seen shows whole shown → sift seen shows [] 0 whole ≡ shown
+  sieved-all whole shown p = ap (λ z. sift seen shows [] 0 z) (sym (append-nil whole)) ∙ p .kept [] []
+
+  -- it shows no more entries than there are
+  pub length-sift : (out : List Listed) (k : ℕ) (es : List Listed) → length (sift seen shows out k es) ≤ length out + length es
+  length-sift out k [] = omega arith
+  length-sift out zero (Draw n ∷ es) =
+      let more = drawing (seen n) n in
+      omega (arith, length-sift (out ++ more) 0 es, length-append out more, length-drawing (seen n) n)
+  length-sift out zero (Enter l ∷ es) =
+      let more = entering (shows l) l in
+      omega (arith, length-sift (out ++ more) (deeper (shows l)) es, length-append out more, length-entering (shows l) l)
+  length-sift out zero (Leave l ∷ es) = omega (arith, length-sift (out ++ (Leave l ∷ [])) 0 es, length-append out (Leave l ∷ []))
+  length-sift out zero (Filter l ∷ es) = omega (arith, length-sift out 0 es)
+  length-sift out (suc k) (Draw n ∷ es) = omega (arith, length-sift out (suc k) es)
+  length-sift out (suc k) (Enter l ∷ es) = omega (arith, length-sift out (suc (suc k)) es)
+  length-sift out (suc k) (Leave l ∷ es) = omega (arith, length-sift out k es)
+  length-sift out (suc k) (Filter l ∷ es) = omega (arith, length-sift out (suc k) es)

@@ -1,19 +1,21 @@
 -- What the full walk lists from one node to another.
-use mathlib.Core.Path.{_≡_, refl, sym, ap, _∙_}
+use mathlib.Core.Path.{_≡_, refl, sym, ap, subst, _∙_}
 use mathlib.Core.List.{List, [], _∷_, _++_, append-assoc}
 use mathlib.Core.Bool.{Bool, true, false, cond}
 use Prim.Native.Nat.{ℕ, zero, suc, _+_, _-_, _*_, _<_, _≤_}
 use native.Mathlib.Omega.{arith}
+use lib.Dec.{eqb}
 use lib.ListN.{length, drop, length-append}
 use Rattle.std.specs.declared.option.Option.{Option}
 use Rattle.std.specs.declared.option.Option.the-variants.{Some, None}
-use Rattle.std.proofs.shelf.Lists.{append-nil}
+use Rattle.std.proofs.shelf.Lists.{append-nil, drop-drop}
 use Rattle.record.specs.declared.node.Node.{Node}
 use Rattle.record.specs.Nesting.{pushed, seek}
 use Rattle.record.specs.Table.{same, top, held, holding}
 use Rattle.walk.specs.declared.listed.Listed.{Listed}
 use Rattle.walk.specs.declared.listed.Listed.the-variants.{Draw, Enter, Leave}
-use Rattle.walk.specs.TileSteps.{Stretch}
+use Rattle.walk.specs.Tile.{until}
+use Rattle.walk.specs.TileSteps.{Lacks, Stretch}
 use Rattle.walk.specs.Walk.{walk, told, leaves, unwind, spanned, entered, starts, room}
 use Rattle.walk.proofs.Counts.{length-spanned}
 use Rattle.walk.proofs.Walks.{walk-here, walk-leave, walk-done}
@@ -63,7 +65,7 @@ rest : (x : Node) (xs : List Node) (s : List ℕ) → same (x .owner) (top s) �
 rest x xs s e = walk-here x xs [] s e ∙ walk-from xs (told [] x) (pushed (x .layer) s)
 
 -- a layer's end
-leave : (xs : List Node) (l : ℕ) (s : List ℕ) → starts (Some l) xs ≡ false → walk xs [] (l ∷ s) ≡ Leave l ∷ walk xs [] s
+pub leave : (xs : List Node) (l : ℕ) (s : List ℕ) → starts (Some l) xs ≡ false → walk xs [] (l ∷ s) ≡ Leave l ∷ walk xs [] s
 leave xs l s e = walk-leave xs l [] s e ∙ walk-from xs (Leave l ∷ []) s
 
 -- a node's own draws
@@ -74,9 +76,27 @@ own-draws x = spanned (x .start) (x .end - x .start)
 abbrev pub around : ℕ → List Listed → List Listed
 around l inner = Enter l ∷ (inner ++ (Leave l ∷ []))
 
+-- of nodes that lack a layer, the later ones do too
+lacks-drop : (l k : ℕ) (ns : List Node) → Lacks l ns → Lacks l (drop k ns)
+lacks-drop l zero ns w = w
+lacks-drop l (suc k) [] w = tt
+lacks-drop l (suc k) (x ∷ ns) w = lacks-drop l k ns (w .1)
+
+lacks-later : (l i j : ℕ) (ns : List Node) → i ≤ j → Lacks l (drop i ns) → Lacks l (drop j ns)
+lacks-later l i j ns h w =
+    let at : i + (j - i) ≡ j = omega arith in
+    subst (λ z. Lacks l (drop z ns)) at (subst (Lacks l) (drop-drop (j - i) i ns) (lacks-drop l (j - i) (drop i ns) w))
+
+-- draws leave no layer
+clear-draws : (l a k : ℕ) (rest : List Listed) → until l (spanned a k ++ rest) ≡ spanned a k ++ until l rest
+clear-draws l a zero rest = refl
+clear-draws l a (suc k) rest =
+    let d = Draw (a + k) ∷ [] in
+    ap (until l) (append-assoc (spanned a k) d rest) ∙ clear-draws l a k (Draw (a + k) ∷ rest) ∙ sym (append-assoc (spanned a k) d (until l rest))
+
 module _ (ns : List Node) (o : Option ℕ) where
   pub stretch-none : (i : ℕ) → i ≤ length ns → Stretch ns o i i []
-  stretch-none i h = record { onward = omega arith; within = h; lines = λ s e. refl; rooms = omega arith; fewer = omega arith }
+  stretch-none i h = record { onward = omega arith; within = h; lines = λ s e. refl; rooms = omega arith; fewer = omega arith; clear = λ l w rest. refl }
 
   pub stretch-then : {i j k : ℕ} {xs ys : List Listed} → Stretch ns o i j xs → Stretch ns o j k ys → Stretch ns o i k (xs ++ ys)
   stretch-then {i} {j} {k} {xs} {ys} p q =
@@ -86,6 +106,11 @@ module _ (ns : List Node) (o : Option ℕ) where
         lines = λ s e. p .lines s e ∙ ap (λ z. xs ++ z) (q .lines s e) ∙ sym (append-assoc xs ys (walk (drop k ns) [] s));
         rooms = omega (arith, length-append xs ys);
         fewer = omega arith;
+        clear = λ l w rest.
+            ap (until l) (append-assoc xs ys rest)
+            ∙ p .clear l w (ys ++ rest)
+            ∙ ap (λ z. xs ++ z) (q .clear l (lacks-later l i j ns (p .onward) w) rest)
+            ∙ sym (append-assoc xs ys (until l rest));
       }
 
   module _ (i : ℕ) (x : Node) (more : drop i ns ≡ x ∷ drop (i + 1) ns) (lt : i < length ns) (own : same (x .owner) o ≡ true) where
@@ -104,6 +129,7 @@ module _ (ns : List Node) (o : Option ℕ) where
           lines = λ s e. first s e ∙ ap (λ z. entered z (own-draws x) ++ walk (drop (i + 1) ns) [] (pushed z s)) none;
           rooms = omega (arith, length-spanned (x .start) (x .end - x .start));
           fewer = omega arith;
+          clear = λ l w rest. clear-draws l (x .start) (x .end - x .start) rest;
         }
 
     -- a node that holds the layer l: its draws, and the layer around what is inside
@@ -125,4 +151,11 @@ module _ (ns : List Node) (o : Option ℕ) where
               ∙ sym (append-assoc draws (around l inner) (walk (drop j ns) [] s));
           rooms = omega (arith, w .rooms, length-append draws (around l inner), length-append inner (Leave l ∷ []), length-spanned (x .start) (x .end - x .start));
           fewer = omega (arith, w .fewer);
+          clear = λ f lacks rest.
+              let here : Lacks f (x ∷ drop (i + 1) ns) = subst (Lacks f) more lacks in
+              let other : eqb l f ≡ false = ap (λ z. same z (Some f)) (sym some) ∙ here .0 in
+              ap (until f) (append-assoc draws (around l inner) rest)
+              ∙ clear-draws f (x .start) (x .end - x .start) (around l inner ++ rest)
+              ∙ ap (λ z. draws ++ (Enter l ∷ z)) (ap (until f) (append-assoc inner (Leave l ∷ []) rest) ∙ w .clear f (here .1) (Leave l ∷ rest) ∙ ap (λ z. inner ++ cond z [] (Leave l ∷ until f rest)) other ∙ sym (append-assoc inner (Leave l ∷ []) (until f rest)))
+              ∙ sym (append-assoc draws (around l inner) (until f rest));
         }

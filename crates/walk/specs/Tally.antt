@@ -4,10 +4,14 @@ use mathlib.Core.List.{List, [], _∷_}
 use Prim.Native.Nat.{ℕ, _+_}
 use lib.ListN.{set}
 use Rattle.std.specs.declared.option.Option.{Option}
-use Rattle.std.specs.declared.option.Option.the-variants.{Some}
+use Rattle.std.specs.declared.option.Option.the-variants.{Some, None}
 use Rattle.walk.specs.declared.listed.Listed.{Listed}
 use Rattle.walk.specs.declared.listed.Listed.the-variants.{Draw, Enter, Leave, Filter}
 use Rattle.walk.specs.declared.tally.Tally.{Tally}
+
+-- a list without entries
+abbrev pub nothing : Tally
+nothing = record { count = 0; top = None }
 
 -- the last draw, with one more entry
 abbrev pub lastDraw : Listed → Option ℕ → Option ℕ

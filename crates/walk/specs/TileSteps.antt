@@ -1,23 +1,29 @@
 -- How a tile walk goes from node to node.
 use mathlib.Core.Path.{_≡_}
-use mathlib.Core.Bool.{Bool}
+use mathlib.Core.Bool.{Bool, false}
 use mathlib.Core.List.{List, [], _∷_, _++_}
 use Prim.Native.Nat.{ℕ, zero, suc, _+_, _≤_}
 use lib.ListN.{length, drop}
 use Rattle.std.specs.declared.option.Option.{Option}
+use Rattle.std.specs.declared.option.Option.the-variants.{Some}
 use Rattle.record.specs.declared.node.Node.{Node}
-use Rattle.record.specs.Table.{top, held}
+use Rattle.record.specs.Table.{same, top, held}
 use Rattle.walk.specs.declared.listed.Listed.{Listed}
 use Rattle.walk.specs.declared.showing.Showing.{Showing}
 use Rattle.walk.specs.declared.tally.Tally.{Tally}
 use Rattle.walk.specs.Tally.{Added}
-use Rattle.walk.specs.Tile.{sift, drawing}
+use Rattle.walk.specs.Tile.{sift, drawing, until}
 use Rattle.walk.specs.Walk.{walk, room}
 
 -- those of the k draws from a on that are seen
 abbrev pub picked : (ℕ → Bool) → ℕ → ℕ → List Listed
 picked seen a zero = []
 picked seen a (suc k) = picked seen a k ++ drawing (seen (a + k)) (a + k)
+
+-- no node holds layer l
+abbrev pub Lacks : ℕ → List Node → Type 0
+Lacks l [] = Unit {0}
+Lacks l (x ∷ ns) = (same (x .layer) (Some l) ≡ false) × Lacks l ns
 
 -- from node i of the layer o up to node j the full walk lists `whole`
 pub record Stretch (ns : List Node) (o : Option ℕ) (i j : ℕ) (whole : List Listed) : Type 0 where
@@ -26,6 +32,8 @@ pub record Stretch (ns : List Node) (o : Option ℕ) (i j : ℕ) (whole : List L
   pub lines : (s : List ℕ) → top s ≡ o → walk (drop i ns) [] s ≡ whole ++ walk (drop j ns) [] s
   pub rooms : length whole + room (drop j ns) ≡ room (drop i ns)
   pub fewer : held (drop j ns) ≤ held (drop i ns)
+  -- it leaves no layer that these nodes do not hold
+  pub clear : (l : ℕ) → Lacks l (drop i ns) → (rest : List Listed) → until l (whole ++ rest) ≡ whole ++ until l rest
 
 -- inside a hidden layer nothing of `whole` is shown, and as many layers are hidden after it as before
 abbrev pub Blind : List Listed → Type 0

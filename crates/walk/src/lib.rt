@@ -1,6 +1,7 @@
 // Walks over a recording.
 pub mod full;
 pub mod listed;
-pub mod showing;
-pub mod tally;
+mod showing;
+pub mod surface;
+mod tally;
 pub mod tile;
