@@ -9,7 +9,7 @@ use Rattle.std.specs.declared.option.Option.{Option}
 use Rattle.std.specs.declared.option.Option.the-variants.{Some, None}
 use Rattle.std.specs.declared.result.Result.{Result}
 use Rattle.refusal.specs.declared.Refusal.{Refusal}
-use Rattle.refusal.specs.declared.Refusal.the-variants.{FillPastEdge, ScenePastEdge, NoPlaceForDraw, TooManyLayers, OpacityOutOfRange, ClipOffTile, ShiftOffTile, NoLayerOpen, FilterPastEdge, LayerOpen, NoPlaceInList}
+use Rattle.refusal.specs.declared.Refusal.the-variants.{FillPastEdge, ScenePastEdge, NoPlaceForDraw, TooManyLayers, OpacityOutOfRange, ClipOffTile, ShiftOffTile, NoLayerOpen, FilterPastEdge, LayerOpen, NoPlaceInList, NoSuchSurface, TileOutOfRange, DrawsMissing}
 
 abbrev pub numberOf : Refusal → ℕ
 numberOf FillPastEdge = 1
@@ -23,6 +23,9 @@ numberOf NoLayerOpen = 8
 numberOf FilterPastEdge = 9
 numberOf LayerOpen = 10
 numberOf NoPlaceInList = 11
+numberOf NoSuchSurface = 12
+numberOf TileOutOfRange = 13
+numberOf DrawsMissing = 14
 
 abbrev pub sentenceOf : Refusal → List ℕ
 sentenceOf FillPastEdge = codes "a high edge of the fill is above 65532"
@@ -36,6 +39,9 @@ sentenceOf NoLayerOpen = codes "no layer is open"
 sentenceOf FilterPastEdge = codes "the filter layer with its padding passes 65532"
 sentenceOf LayerOpen = codes "a layer is still open"
 sentenceOf NoPlaceInList = codes "the output list has too few places"
+sentenceOf NoSuchSurface = codes "the surface is not the scene or a filter layer"
+sentenceOf TileOutOfRange = codes "the tile's column or row is above 16382"
+sentenceOf DrawsMissing = codes "the draw list is shorter than the recording"
 
 -- a call's question, answered, with the number of the refusal where the answer is no
 abbrev pub Question : Type 0

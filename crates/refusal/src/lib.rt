@@ -29,6 +29,12 @@ pub enum Refusal {
     LayerOpen,
     // The output list has fewer places than the walk has entries.
     NoPlaceInList,
+    // A tile walk starts at the scene, or at a recorded filter layer.
+    NoSuchSurface,
+    // The tile's column or row is above 16,382.
+    TileOutOfRange,
+    // The draw list is shorter than the number of recorded draws.
+    DrawsMissing,
 }
 
 impl Refusal {
@@ -48,6 +54,9 @@ impl Refusal {
             Refusal::FilterPastEdge => 9,
             Refusal::LayerOpen => 10,
             Refusal::NoPlaceInList => 11,
+            Refusal::NoSuchSurface => 12,
+            Refusal::TileOutOfRange => 13,
+            Refusal::DrawsMissing => 14,
         }
     }
 
@@ -68,6 +77,9 @@ impl Refusal {
             Refusal::FilterPastEdge => "the filter layer with its padding passes 65532",
             Refusal::LayerOpen => "a layer is still open",
             Refusal::NoPlaceInList => "the output list has too few places",
+            Refusal::NoSuchSurface => "the surface is not the scene or a filter layer",
+            Refusal::TileOutOfRange => "the tile's column or row is above 16382",
+            Refusal::DrawsMissing => "the draw list is shorter than the recording",
         }
     }
 }

@@ -14,5 +14,8 @@ fn numbers() -> Result<(), Fail> {
     check_eq(Refusal::NoLayerOpen.number(), 8)?;
     check_eq(Refusal::FilterPastEdge.number(), 9)?;
     check_eq(Refusal::LayerOpen.number(), 10)?;
-    check_eq(Refusal::NoPlaceInList.number(), 11)
+    check_eq(Refusal::NoPlaceInList.number(), 11)?;
+    check_eq(Refusal::NoSuchSurface.number(), 12)?;
+    check_eq(Refusal::TileOutOfRange.number(), 13)?;
+    check_eq(Refusal::DrawsMissing.number(), 14)
 }

@@ -108,6 +108,7 @@ pub impl fmt::Display for Shown<Listed> as ShownListed {
             Listed::Draw(number) => write!(f, "Draw {number}"),
             Listed::Enter(layer) => write!(f, "Enter {layer}"),
             Listed::Leave(layer) => write!(f, "Leave {layer}"),
+            Listed::Filter(layer) => write!(f, "Filter {layer}"),
         }
     }
 }

@@ -5,7 +5,7 @@ use mathlib.Core.Bool.{true, false, cond}
 use mathlib.Core.Logic.{⊎-elim}
 use Prim.Native.Nat.{ℕ, zero, suc, _+_, _-_, _*_, _<_, _≤_}
 use native.Mathlib.Omega.{arith}
-use lib.ListN.{length, length-append}
+use lib.ListN.{length, drop, length-append}
 use Rattle.std.specs.declared.option.Option.{Option}
 use Rattle.std.specs.declared.option.Option.the-variants.{Some, None}
 use Rattle.std.proofs.shelf.Lists.{append-nil}
@@ -31,7 +31,7 @@ walk-reverse (x ∷ older) ys f =
     let own : same (x .owner) (top (seek (x .owner) (spine older))) ≡ true = rw (f .0) (same-self (x .owner)) in
     ap (λ z. walk z [] []) r ∙ walk-reverse older (x ∷ ys) (f .1) ∙ rw own refl
 
-length-spanned : (a k : ℕ) → length (spanned a k) ≡ k
+pub length-spanned : (a k : ℕ) → length (spanned a k) ≡ k
 length-spanned a zero = refl
 length-spanned a (suc k) = length-append (spanned a k) (Draw (a + k) ∷ []) ∙ (let e = length-spanned a k in omega arith)
 
@@ -87,6 +87,17 @@ held-append (y ∷ ys) x = let e = held-append ys x in omega arith
 pub held-reverse : (t : List Node) → held (reverse t) ≡ held t
 held-reverse [] = refl
 held-reverse (x ∷ older) = let e = held-reverse older in let f = ap held (reverse-cons x older) in let g = held-append (reverse older) x in omega arith
+
+-- later nodes have no more entries, and hold no more layers
+pub room-drop : (k : ℕ) (ns : List Node) → room (drop k ns) ≤ room ns
+room-drop zero ns = omega arith
+room-drop (suc k) [] = omega arith
+room-drop (suc k) (x ∷ ns) = omega (arith, room-drop k ns)
+
+pub held-drop : (k : ℕ) (ns : List Node) → held (drop k ns) ≤ held ns
+held-drop zero ns = omega arith
+held-drop (suc k) [] = omega arith
+held-drop (suc k) (x ∷ ns) = omega (arith, held-drop k ns)
 
 pub walk-length : (t : List Node) → Found t → length (walk (reverse t) [] []) ≡ room t
 walk-length t f =

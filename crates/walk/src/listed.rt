@@ -4,4 +4,6 @@ pub enum Listed {
     Draw(u32),
     Enter(u32),
     Leave(u32),
+    // A filter layer that lies on the surface; its contents are not listed.
+    Filter(u32),
 }

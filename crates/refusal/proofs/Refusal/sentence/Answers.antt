@@ -32,3 +32,12 @@ returns-in-NoPlaceInList c = rw (c .in-NoPlaceInList .is)
 
 pub returns-in-ScenePastEdge : need.returns-in-ScenePastEdge
 returns-in-ScenePastEdge c = rw (c .in-ScenePastEdge .is)
+
+pub returns-in-NoSuchSurface : need.returns-in-NoSuchSurface
+returns-in-NoSuchSurface c = rw (c .in-NoSuchSurface .is)
+
+pub returns-in-TileOutOfRange : need.returns-in-TileOutOfRange
+returns-in-TileOutOfRange c = rw (c .in-TileOutOfRange .is)
+
+pub returns-in-DrawsMissing : need.returns-in-DrawsMissing
+returns-in-DrawsMissing c = rw (c .in-DrawsMissing .is)
