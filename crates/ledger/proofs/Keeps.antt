@@ -9,7 +9,7 @@ use lib.Dec.{ltb}
 use lib.ListN.{length, getD, set, take, drop}
 use Rattle.std.specs.declared.option.Option.{Option}
 use Rattle.std.specs.declared.option.Option.the-variants.{Some, None}
-use Rattle.std.proofs.shelf.Lists.{map-push, take-more, take-more-set, length-take-le, drop-drop, drop-set-lt}
+use Rattle.std.proofs.shelf.Lists.{append-nil, map-push, take-more, take-more-set, length-take-le, drop-drop, drop-set-lt}
 use Rattle.std.proofs.shelf.Tests.{cond-both, cond-true, cond-false, cases-bool, and-parts, ltb-true}
 use Rattle.refusal.specs.Refusals.{firstNo}
 use Rattle.geometry.specs.declared.rect.RectU16.{RectU16}
@@ -32,7 +32,12 @@ use Rattle.ledger.specs.declared.call.Answer.{Answer}
 use Rattle.ledger.specs.declared.call.Answer.the-variants as answer
 use Rattle.ledger.specs.declared.call.Call.{Call}
 use Rattle.ledger.specs.declared.call.Call.the-variants as call
-use Rattle.ledger.specs.Laws.{Each, Stands, Led}
+use Rattle.ledger.specs.Laws.{Each, Stands, Nesting, Led}
+use Rattle.ledger.specs.Sheet.{entries, records}
+use Rattle.walk.specs.FullWalk.{listed as walked}
+use Rattle.walk.specs.Tile.{sift, drawShows, layerShows}
+use Rattle.ledger.proofs.Kepts.{sifted, agrees}
+use Rattle.ledger.proofs.Tiles.{scene-kept}
 use Rattle.ledger.specs.Made.{Made, afterCall, written}
 use Rattle.ledger.specs.Runs.{afterEntry, recordedFrom, recorded, questions, AnsweredBy, Answered, AllAnswered}
 use Rattle.ledger.proofs.Closes.{Closes, closes}
@@ -193,13 +198,38 @@ module _ {D : Type 0} (boxOf : D → Option RectU16) (modeOf : D → Option Blen
   none-open [] e = refl
   none-open (o ∷ os) e = let z : _≡_ {A = ℕ} 0 1 = cc in absurd (omega arith)
 
+  walk-lists : (b : Ledger D) (v : Recording) (ds : List D) → opened (b .entries) ≡ [] → Keeps (b .scene) (b .entries) v ds → walked v ≡ numbers (b .entries)
+  walk-lists b v ds none w = shown-all (numbers (b .entries)) (v .tree .nodes) (v .account .layers) (subst (λ z. Shown (numbers (b .entries)) (v .tree .nodes) z (v .account .layers)) (sym (w .unclosed) ∙ none) (w .shown))
+
+  all-stand : (b : Ledger D) (v : Recording) (ds : List D) → Keeps (b .scene) (b .entries) v ds → Each (Stands ds) (b .entries)
+  all-stand b v ds w = each-weaker (StandsBefore (v .account .drawn) ds) (Stands ds) (stands-plain (v .account .drawn) ds) (b .entries) (w .stands)
+
+  nesting : (b : Ledger D) (v : Recording) (ds : List D) → opened (b .entries) ≡ [] → Keeps (b .scene) (b .entries) v ds → Nesting boxOf (b .entries) v ds
+  nesting b v ds none w =
+      let n = nested-sheet boxOf modeOf (b .entries) v (none-open (v .account .opened) (sym (w .unclosed) ∙ none)) (w .nested) in
+      let x = n .0 in
+      let whole = n .1 .0 in
+      let table = n .1 .1 .0 in
+      let stand = subst (λ z. Each (Stands ds) z) (sym whole) (all-stand b v ds w) in
+      let at-front : v .tree .layers ≡ [] ++ (records boxOf 1 x ++ []) = table ∙ sym (append-nil (records boxOf 1 x)) in
+      let lists : walked v ≡ numbers (entries x) = walk-lists b v ds none w ∙ ap numbers (sym whole) in
+      record {
+        sheet = x;
+        whole = whole;
+        layers = table;
+        placed = n .1 .1 .1 .0;
+        tiles = λ t. ap (λ z. sift (drawShows boxOf t ds) (layerShows t (v .tree .layers)) [] 0 z) lists
+            ∙ sifted boxOf t (drawShows boxOf t ds) (layerShows t (v .tree .layers)) x (agrees boxOf t ds (v .tree .layers) 1 x [] [] at-front (n .1 .1 .1 .1) stand)
+            ∙ sym (scene-kept boxOf t x);
+      }
+
   -- what is promised of a run
   pub keeps-led : (b : Ledger D) (v : Recording) (ds : List D) → Keeps (b .scene) (b .entries) v ds → Led boxOf modeOf b v ds
   keeps-led b v ds w = record {
     recording = w .is;
-    stands = each-weaker (StandsBefore (v .account .drawn) ds) (Stands ds) (stands-plain (v .account .drawn) ds) (b .entries) (w .stands);
-    walk = λ none. shown-all (numbers (b .entries)) (v .tree .nodes) (v .account .layers) (subst (λ z. Shown (numbers (b .entries)) (v .tree .nodes) z (v .account .layers)) (sym (w .unclosed) ∙ none) (w .shown));
-    nests = λ none. nested-sheet boxOf modeOf (b .entries) v (none-open (v .account .opened) (sym (w .unclosed) ∙ none)) (w .nested);
+    stands = all-stand b v ds w;
+    walk = λ none. walk-lists b v ds none w;
+    nests = λ none. nesting b v ds none w;
   }
 
   -- one more answer

@@ -5,3 +5,5 @@ pub mod Closes
 pub mod Keeps
 pub mod Sheets
 pub mod Nesteds
+pub mod Tiles
+pub mod Kepts

@@ -24,7 +24,7 @@ use Rattle.record.proofs.Sounds.{length-change}
 use Rattle.ledger.specs.Ledger.{Opening, Entry, Draw, Enter, Leave}
 use Rattle.ledger.specs.Sheet.{Sheet, end, draw, layer, entries, closedAs, orNothing, contentsFrom, contents, layerRecord, records, Placed}
 use Rattle.ledger.proofs.Closes.{Closes, closed-lies}
-use Rattle.ledger.proofs.Sheets.{Frame, frame, joined, flat, flat-push, contents-joined, flatRecords, records-push, openWith, Matches, Counts, AllPlaced, matches-length, all-placed-joined, change-behind}
+use Rattle.ledger.proofs.Sheets.{Frame, frame, joined, flat, flat-push, contents-joined, flatRecords, records-push, openWith, Matches, Counts, AllPlaced, matches-length, all-placed-joined, size, Ordered, base, AllOrdered, all-ordered-joined, length-flat, change-behind}
 
 module _ {D : Type 0} (boxOf : D → Option RectU16) (modeOf : D → Option BlendMode) where
   pub record Nested (es : List (Entry D)) (v : Recording) : Type 0 where
@@ -35,10 +35,11 @@ module _ {D : Type 0} (boxOf : D → Option RectU16) (modeOf : D → Option Blen
     pub layers : v .tree .layers ≡ flatRecords boxOf frames sheet
     pub counts : Counts boxOf frames
     pub placed : AllPlaced boxOf frames sheet
+    pub ordered : AllOrdered frames sheet
     pub long : length (v .tree .layers) ≡ v .account .layers
 
   pub nested-none : (scene : SizeU16) → Nested [] (emptyRecording scene)
-  nested-none scene = record { frames = []; sheet = end; whole = refl; matches = tt; layers = refl; counts = tt; placed = tt; long = refl }
+  nested-none scene = record { frames = []; sheet = end; whole = refl; matches = tt; layers = refl; counts = tt; placed = tt; ordered = tt; long = refl }
 
   -- the innermost layer takes in a box, and its sheet grows by what has that box
   matches-take : (b : Option RectU16) (os : List OpenLayer) (fs : List (Frame D)) (x y : Sheet D) → contents boxOf y ≡ put b (contents boxOf x) → Matches boxOf os fs x → Matches boxOf (takeIn b os) fs y
@@ -61,6 +62,7 @@ module _ {D : Type 0} (boxOf : D → Option RectU16) (modeOf : D → Option Blen
         layers = w .layers ∙ sym (records-push boxOf (w .frames) (w .sheet) x ∙ append-nil (flatRecords boxOf (w .frames) (w .sheet)));
         counts = w .counts;
         placed = all-placed-joined boxOf (w .frames) (w .sheet) x (w .placed) tt;
+        ordered = all-ordered-joined (w .frames) (w .sheet) x (w .ordered) tt;
         long = w .long;
       }
 
@@ -78,6 +80,7 @@ module _ {D : Type 0} (boxOf : D → Option RectU16) (modeOf : D → Option Blen
         layers = ap₂ (λ y k. y ++ (recordedOpen props f (k + 1) ∷ [])) (w .layers) deep;
         counts = (e ∙ sym (w .long) ∙ ap length (w .layers), w .counts);
         placed = (tt, w .placed);
+        ordered = (tt, w .ordered);
         long = omega (arith, r, w .long);
       }
 
@@ -86,10 +89,10 @@ module _ {D : Type 0} (boxOf : D → Option RectU16) (modeOf : D → Option Blen
     abbrev u : Recording
     u = record { account = accountAfterClosing (k .result) (v .account); tree = treeAfterClosing (k .layer .id) (k .result) (v .tree) }
 
-    close-frames : (fs : List (Frame D)) (x : Sheet D) → es ≡ flat fs x → Matches boxOf (k .layer ∷ k .outer) fs x → v .tree .layers ≡ flatRecords boxOf fs x → Counts boxOf fs → AllPlaced boxOf fs x
+    close-frames : (fs : List (Frame D)) (x : Sheet D) → es ≡ flat fs x → Matches boxOf (k .layer ∷ k .outer) fs x → v .tree .layers ≡ flatRecords boxOf fs x → Counts boxOf fs → AllPlaced boxOf fs x → AllOrdered fs x
         → length (v .tree .layers) ≡ v .account .layers → Nested (es ++ (Leave (k .layer .id) ∷ [])) u
-    close-frames [] x w m r c p l = absurd m
-    close-frames (frame before n op ∷ fs) x w m r c p l =
+    close-frames [] x w m r c p q l = absurd m
+    close-frames (frame before n op ∷ fs) x w m r c p q l =
         let o = k .layer in
         let id-is : o .id ≡ n = ap (λ z. z .id) (m .0) in
         let gives : closing o ≡ Some (k .result) = ap closingOf (sym (k .is)) ∙ k .gives in
@@ -105,6 +108,7 @@ module _ {D : Type 0} (boxOf : D → Option RectU16) (modeOf : D → Option Blen
         = ap₂ (changeAt (recordedClosed (k .result))) place r ∙ change-behind (recordedClosed (k .result)) (flatRecords boxOf fs before) open-record inside in
         let now-records : flatRecords boxOf fs (joined before y) ≡ flatRecords boxOf fs before ++ (recordedClosed (k .result) open-record ∷ inside)
         = records-push boxOf fs before y ∙ ap₂ (λ z i. flatRecords boxOf fs before ++ (recordedClosed z open-record ∷ i)) result (append-nil inside) in
+        let first : n ≡ base fs + size before = c .0 ∙ length-flat boxOf fs before (c .1) in
         let pads : padsWithin (op .filter) (contents boxOf x) ≡ true = ap (λ z. padsWithin (z .filter) (z .contents)) (sym (m .0)) ∙ k .pads in
         record {
           frames = fs;
@@ -114,6 +118,7 @@ module _ {D : Type 0} (boxOf : D → Option RectU16) (modeOf : D → Option Blen
           layers = changed ∙ sym now-records;
           counts = c .1;
           placed = all-placed-joined boxOf fs before y (p .1) (closed-lies op (contents boxOf x) pads, (p .0, tt));
+          ordered = all-ordered-joined fs before y (q .1) (first, (subst (λ i. Ordered (suc i) x) first (q .0), tt));
           long = length-change (recordedClosed (k .result)) (o .id) (v .tree .layers) ∙ l;
         }
 
@@ -121,12 +126,12 @@ module _ {D : Type 0} (boxOf : D → Option RectU16) (modeOf : D → Option Blen
   nested-close es v k w =
       let q : afterClosing v ≡ u es v k = ap (λ c. closedBy c v) (k .gives) ∙ ap (λ o. record { account = accountAfterClosing (k .result) (v .account); tree = closedTree (k .result) o (v .tree) }) (k .is) in
       subst (Nested (es ++ (Leave (k .layer .id) ∷ []))) (sym q)
-      (close-frames es v k (w .frames) (w .sheet) (w .whole) (subst (λ z. Matches boxOf z (w .frames) (w .sheet)) (k .is) (w .matches)) (w .layers) (w .counts) (w .placed) (w .long))
+      (close-frames es v k (w .frames) (w .sheet) (w .whole) (subst (λ z. Matches boxOf z (w .frames) (w .sheet)) (k .is) (w .matches)) (w .layers) (w .counts) (w .placed) (w .ordered) (w .long))
 
   -- with no layer open
-  pub nested-sheet : (es : List (Entry D)) (v : Recording) → v .account .opened ≡ [] → Nested es v → (x : Sheet D) × ((entries x ≡ es) × ((v .tree .layers ≡ records boxOf 1 x) × Placed boxOf x))
-  nested-sheet es v none w = go (w .frames) (w .sheet) (w .whole) (subst (λ z. Matches boxOf z (w .frames) (w .sheet)) none (w .matches)) (w .layers) (w .placed)
+  pub nested-sheet : (es : List (Entry D)) (v : Recording) → v .account .opened ≡ [] → Nested es v → (x : Sheet D) × ((entries x ≡ es) × ((v .tree .layers ≡ records boxOf 1 x) × (Placed boxOf x × Ordered 0 x)))
+  nested-sheet es v none w = go (w .frames) (w .sheet) (w .whole) (subst (λ z. Matches boxOf z (w .frames) (w .sheet)) none (w .matches)) (w .layers) (w .placed) (w .ordered)
     where
-      go : (fs : List (Frame D)) (x : Sheet D) → es ≡ flat fs x → Matches boxOf [] fs x → v .tree .layers ≡ flatRecords boxOf fs x → AllPlaced boxOf fs x → (y : Sheet D) × ((entries y ≡ es) × ((v .tree .layers ≡ records boxOf 1 y) × Placed boxOf y))
-      go [] x e m r p = (x, (sym e, (r, p)))
-      go (f ∷ fs) x e m r p = absurd m
+      go : (fs : List (Frame D)) (x : Sheet D) → es ≡ flat fs x → Matches boxOf [] fs x → v .tree .layers ≡ flatRecords boxOf fs x → AllPlaced boxOf fs x → AllOrdered fs x → (y : Sheet D) × ((entries y ≡ es) × ((v .tree .layers ≡ records boxOf 1 y) × (Placed boxOf y × Ordered 0 y)))
+      go [] x e m r p q = (x, (sym e, (r, (p, q))))
+      go (f ∷ fs) x e m r p q = absurd m

@@ -109,6 +109,57 @@ module _ {D : Type 0} where
     all-placed-joined [] s x p q = placed-joined s x p q
     all-placed-joined (frame before n o ∷ fs) s x p q = (placed-joined s x (p .0) q, p .1)
 
+-- the layers of a sheet are numbered in the order of their opening
+module _ {D : Type 0} where
+  abbrev pub size : Sheet D → ℕ
+  size end = 0
+  size (draw n d rest) = size rest
+  size (layer n o inside rest) = suc (size inside + size rest)
+
+  abbrev pub Ordered : ℕ → Sheet D → Type 0
+  Ordered k end = Unit {0}
+  Ordered k (draw n d rest) = Ordered k rest
+  Ordered k (layer n o inside rest) = (n ≡ k) × (Ordered (suc k) inside × Ordered (suc (k + size inside)) rest)
+
+  ordered-at : {j k : ℕ} (x : Sheet D) → j ≡ k → Ordered j x → Ordered k x
+  ordered-at x e w = subst (λ i. Ordered i x) e w
+
+  ordered-joined : (k : ℕ) (s x : Sheet D) → Ordered k s → Ordered (k + size s) x → Ordered k (joined s x)
+  unfolding joined
+  ordered-joined k end x w v = ordered-at x (omega arith) v
+  ordered-joined k (draw n d rest) x w v = ordered-joined k rest x w v
+  ordered-joined k (layer n o inside rest) x w v = (w .0, (w .1 .0, ordered-joined (suc (k + size inside)) rest x (w .1 .1) (ordered-at x (omega arith) v)))
+
+  -- the number of the first layer inside the innermost frame
+  abbrev pub base : List (Frame D) → ℕ
+  base [] = 0
+  base (frame before n o ∷ fs) = suc n
+
+  abbrev pub AllOrdered : List (Frame D) → Sheet D → Type 0
+  AllOrdered [] x = Ordered 0 x
+  AllOrdered (frame before n o ∷ fs) x = Ordered (suc n) x × AllOrdered fs before
+
+  pub all-ordered-joined : (fs : List (Frame D)) (s x : Sheet D) → AllOrdered fs s → Ordered (base fs + size s) x → AllOrdered fs (joined s x)
+  all-ordered-joined [] s x w v = ordered-joined 0 s x w v
+  all-ordered-joined (frame before n o ∷ fs) s x w v = (ordered-joined (suc n) s x (w .0) v, w .1)
+
+  pub length-records : (boxOf : D → Option RectU16) (depth : ℕ) (x : Sheet D) → length (records boxOf depth x) ≡ size x
+  length-records boxOf depth end = refl
+  length-records boxOf depth (draw n d rest) = length-records boxOf depth rest
+  length-records boxOf depth (layer n o inside rest) =
+      let a = length-append (records boxOf (depth + 1) inside) (records boxOf depth rest) in
+      let b = length-records boxOf (depth + 1) inside in
+      let c = length-records boxOf depth rest in
+      omega arith
+
+  pub length-flat : (boxOf : D → Option RectU16) (fs : List (Frame D)) (x : Sheet D) → Counts boxOf fs → length (flatRecords boxOf fs x) ≡ base fs + size x
+  length-flat boxOf [] x c = length-records boxOf 1 x ∙ omega arith
+  length-flat boxOf (frame before n o ∷ fs) x c =
+      let a = length-append (flatRecords boxOf fs before) (recordedOpen (o .props) (o .filter) (length fs + 1) ∷ records boxOf (length fs + 1 + 1) x) in
+      let b = length-records boxOf (length fs + 1 + 1) x in
+      let d = c .0 in
+      omega arith
+
 -- the record at the place behind the first ones, changed
 pub change-behind : {X : Type 0} (f : X → X) (xs : List X) (y : X) (ys : List X) → changeAt f (length xs) (xs ++ (y ∷ ys)) ≡ xs ++ (f y ∷ ys)
 change-behind f [] y ys = refl

@@ -9,9 +9,12 @@ use Rattle.draws.specs.declared.blend.BlendMode.{BlendMode}
 use Rattle.record.specs.Recording.{Recording}
 use Rattle.walk.specs.FullWalk.{listed}
 use Rattle.ledger.specs.Ledger.{Entry, Draw, Enter, Leave, Ledger, opened, numbers}
-use Rattle.record.specs.declared.layer.RecordedLayer.{RecordedLayer}
+use Rattle.geometry.specs.declared.tile.Tile.{Tile}
+use Rattle.walk.specs.declared.surface.Surface.the-variants.{Scene}
+use Rattle.walk.specs.Tile.{drawShows, tileListed}
 use Rattle.ledger.specs.Runs.{recorded}
 use Rattle.ledger.specs.Sheet.{Sheet, entries, records, Placed}
+use Rattle.ledger.specs.Tiles.{tileList}
 
 -- a draw stands at its place in the draw list
 abbrev pub Stands : {D : Type 0} → List D → Entry D → Type 0
@@ -23,9 +26,17 @@ abbrev pub Each : {D : Type 0} → (Entry D → Type 0) → List (Entry D) → T
 Each P [] = Unit {0}
 Each P (e ∷ es) = P e × Each P es
 
--- The entries es are those of a sheet, by whose nesting the layers have their records and the filter layers their destinations.
-abbrev pub Nests : {D : Type 0} → (D → Option RectU16) → List (Entry D) → List RecordedLayer → Type 0
-Nests boxOf es layers = (x : Sheet _) × ((entries x ≡ es) × ((layers ≡ records boxOf 1 x) × Placed boxOf x))
+-- The entries es, with no layer open, by their nesting.
+pub record Nesting {D : Type 0} (boxOf : D → Option RectU16) (es : List (Entry D)) (r : Recording) (ds : List D) : Type 0 where
+  -- they are those of a sheet
+  pub sheet : Sheet D
+  pub whole : entries sheet ≡ es
+  -- every layer's box and placement are those that the closing rules give by that nesting
+  pub layers : r .tree .layers ≡ records boxOf 1 sheet
+  -- every filter layer with contents lies where it should
+  pub placed : Placed boxOf sheet
+  -- the list of each tile on the scene is the one that the nesting gives, by clips
+  pub tiles : (t : Tile) → tileListed Scene t (drawShows boxOf t ds) r ≡ tileList boxOf Scene t sheet
 
 -- The ledger b led to the recording r and the draw list ds.
 pub record Led {D : Type 0} (boxOf : D → Option RectU16) (modeOf : D → Option BlendMode) (b : Ledger D) (r : Recording) (ds : List D) : Type 0 where
@@ -35,5 +46,5 @@ pub record Led {D : Type 0} (boxOf : D → Option RectU16) (modeOf : D → Optio
   pub stands : Each (Stands ds) (b .entries)
   -- with no layer open, a full walk lists exactly the ledger's entries, in order
   pub walk : opened (b .entries) ≡ [] → listed r ≡ numbers (b .entries)
-  -- and every layer's box and placement are those that the closing rules give by the ledger's nesting
-  pub nests : opened (b .entries) ≡ [] → Nests boxOf (b .entries) (r .tree .layers)
+  -- and layers, destinations and tile lists are those that the ledger's nesting gives
+  pub nests : opened (b .entries) ≡ [] → Nesting boxOf (b .entries) r ds

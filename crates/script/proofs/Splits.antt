@@ -43,10 +43,10 @@ blanks = 32 ∷ 9 ∷ []
 among-blank : (c : ℕ) → among blanks c ≡ blank c
 among-blank c =
     ⊎-elim (λ e. rw (eq-eqb 32 c (sym e), eq-eqb c 32 e)) (λ n. rw (ne-eqb 32 c (λ e. n (sym e)), ne-eqb c 32 n) (nine (cases-eq c 9))) (cases-eq c 32)
-    where
-      nine : (c ≡ 9) ⊎ (c ≡ 9 → ⊥) → (eqb 9 c || false) ≡ eqb c 9
-      nine (inl e) = rw (eq-eqb 9 c (sym e), eq-eqb c 9 e)
-      nine (inr n) = rw (ne-eqb 9 c (λ e. n (sym e)), ne-eqb c 9 n)
+  where
+    nine : (c ≡ 9) ⊎ (c ≡ 9 → ⊥) → (eqb 9 c || false) ≡ eqb c 9
+    nine (inl e) = rw (eq-eqb 9 c (sym e), eq-eqb c 9 e)
+    nine (inr n) = rw (ne-eqb 9 c (λ e. n (sym e)), ne-eqb c 9 n)
 
 -- a blank takes one byte
 blank-small : (c : ℕ) → blank c ≡ true → c < 128
@@ -106,8 +106,7 @@ pub cut-at : (bs : List ℕ) (i j : ℕ) → Firsts bs (Some (i, j)) → (wordsO
 cut-at bs i j first =
     let found : FindsBy (among blanks) bs (Some (i, j)) = first (among blanks) (λ c. refl) in
     let c = found .1 .0 in
-    let b : blank c ≡ true = sym (among-blank c) ∙ found .1 .1 in
-    (
+    let b : blank c ≡ true = sym (among-blank c) ∙ found .1 .1 in (
       words-at bs i j found,
       λ dark. ⊎-elim (λ lt. lt) (λ le. let none : i ≡ 0 = omega arith in absurd (both-ways _ dark (ap blank (ap (λ k. getD bs k 0) (sym none) ∙ found .1 .2 .byte (blank-small c b)) ∙ b))) (cases-lt 0 i),
     )
