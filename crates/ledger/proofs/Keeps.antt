@@ -3,7 +3,7 @@ use mathlib.Core.Path.{_≡_, refl, sym, ap, ap₂, subst, _∙_}
 use mathlib.Core.List.{List, [], _∷_, _++_}
 use mathlib.Core.Bool.{Bool, true, false, cond, _&&_}
 use mathlib.Core.Logic.{⊎-elim}
-use Prim.Native.Nat.{ℕ, _+_, _<_, _≤_}
+use Prim.Native.Nat.{ℕ, zero, suc, _+_, _<_, _≤_}
 use native.Mathlib.Omega.{arith}
 use lib.Dec.{ltb}
 use lib.ListN.{length, getD, set, take, drop}
@@ -33,10 +33,17 @@ use Rattle.ledger.specs.declared.call.Answer.the-variants as answer
 use Rattle.ledger.specs.declared.call.Call.{Call}
 use Rattle.ledger.specs.declared.call.Call.the-variants as call
 use Rattle.ledger.specs.Laws.{Each, Stands, Nesting, Led}
-use Rattle.ledger.specs.Sheet.{entries, records}
+use Rattle.geometry.specs.declared.tile.Tile.{Tile}
+use Rattle.record.specs.declared.layer.RecordedLayer.{RecordedLayer}
+use Rattle.walk.specs.declared.surface.Surface.{Surface}
+use Rattle.walk.specs.declared.surface.Surface.the-variants as surfaces
+use Rattle.ledger.specs.Sheet.{Sheet, entries, records}
+use Rattle.ledger.specs.Tiles.{tileList}
 use Rattle.walk.specs.FullWalk.{listed as walked}
-use Rattle.walk.specs.Tile.{sift, drawShows, layerShows}
-use Rattle.ledger.proofs.Kepts.{sifted, agrees}
+use Rattle.walk.specs.Tile.{after as past, until, sift, drawShows, layerShows, filterAt, isSurface, tileListed}
+use Rattle.ledger.proofs.Kepts.{Agrees, sifted, agrees}
+use Rattle.ledger.proofs.Sheets.{size, Ordered, length-records}
+use Rattle.ledger.proofs.Surfaces.{locate}
 use Rattle.ledger.proofs.Tiles.{scene-kept}
 use Rattle.ledger.specs.Made.{Made, afterCall, written}
 use Rattle.ledger.specs.Runs.{afterEntry, recordedFrom, recorded, questions, AnsweredBy, Answered, AllAnswered}
@@ -204,6 +211,34 @@ module _ {D : Type 0} (boxOf : D → Option RectU16) (modeOf : D → Option Blen
   all-stand : (b : Ledger D) (v : Recording) (ds : List D) → Keeps (b .scene) (b .entries) v ds → Each (Stands ds) (b .entries)
   all-stand b v ds w = each-weaker (StandsBefore (v .account .drawn) ds) (Stands ds) (stands-plain (v .account .drawn) ds) (b .entries) (w .stands)
 
+  filter-below : (table : List RecordedLayer) (l : ℕ) → filterAt table l ≡ true → l < length table
+  filter-below [] l e = let z : _≡_ {A = ℕ} 0 1 = cc in absurd (omega arith)
+  filter-below (x ∷ table) zero e = omega arith
+  filter-below (x ∷ table) (suc l) e = let h = filter-below table l e in omega arith
+
+  -- the tile lists of a recording whose layers and walk are a sheet's
+  tiles-listed : (x : Sheet D) (v : Recording) (ds : List D) (t : Tile) → walked v ≡ numbers (entries x) → v .tree .layers ≡ records boxOf 1 x → Ordered 0 x → Each (Stands ds) (entries x)
+      → (s : Surface) → isSurface s (v .tree .layers) ≡ true → tileListed s t (drawShows boxOf t ds) v ≡ tileList boxOf s t x
+  tiles-listed x v ds t lists table o stand s is =
+      let at-front : v .tree .layers ≡ [] ++ (records boxOf 1 x ++ []) = table ∙ sym (append-nil (records boxOf 1 x)) in
+      let agree = agrees boxOf t ds (v .tree .layers) 1 x [] [] at-front o stand in
+      go s is agree
+    where
+      go : (s : Surface) → isSurface s (v .tree .layers) ≡ true → Agrees boxOf t (drawShows boxOf t ds) (layerShows t (v .tree .layers)) (filterAt (v .tree .layers)) x → tileListed s t (drawShows boxOf t ds) v ≡ tileList boxOf s t x
+      go surfaces.Scene is a =
+          ap (λ z. sift (drawShows boxOf t ds) (layerShows t (v .tree .layers)) [] 0 z) lists
+          ∙ sifted boxOf t (drawShows boxOf t ds) (layerShows t (v .tree .layers)) (filterAt (v .tree .layers)) x a
+          ∙ sym (scene-kept boxOf t x)
+      go (surfaces.Layer l) is a =
+          let long = ap length table ∙ length-records boxOf 1 x in
+          let below : l < 0 + size x = omega (arith, filter-below (v .tree .layers) l is) in
+          let w = locate boxOf t (drawShows boxOf t ds) (layerShows t (v .tree .layers)) (filterAt (v .tree .layers)) l is x 0 o (omega arith) below a in
+          let within : until l (past l (walked v)) ≡ numbers (entries (w .inner)) = ap (λ z. until l (past l z)) (lists ∙ sym (append-nil (numbers (entries x)))) ∙ w .lines [] in
+          ap (λ z. sift (drawShows boxOf t ds) (layerShows t (v .tree .layers)) [] 0 z) within
+          ∙ sifted boxOf t (drawShows boxOf t ds) (layerShows t (v .tree .layers)) (filterAt (v .tree .layers)) (w .inner) (w .agree)
+          ∙ sym (scene-kept boxOf t (w .inner))
+          ∙ sym (w .lists [] refl)
+
   nesting : (b : Ledger D) (v : Recording) (ds : List D) → opened (b .entries) ≡ [] → Keeps (b .scene) (b .entries) v ds → Nesting boxOf (b .entries) v ds
   nesting b v ds none w =
       let n = nested-sheet boxOf modeOf (b .entries) v (none-open (v .account .opened) (sym (w .unclosed) ∙ none)) (w .nested) in
@@ -211,16 +246,13 @@ module _ {D : Type 0} (boxOf : D → Option RectU16) (modeOf : D → Option Blen
       let whole = n .1 .0 in
       let table = n .1 .1 .0 in
       let stand = subst (λ z. Each (Stands ds) z) (sym whole) (all-stand b v ds w) in
-      let at-front : v .tree .layers ≡ [] ++ (records boxOf 1 x ++ []) = table ∙ sym (append-nil (records boxOf 1 x)) in
       let lists : walked v ≡ numbers (entries x) = walk-lists b v ds none w ∙ ap numbers (sym whole) in
       record {
         sheet = x;
         whole = whole;
         layers = table;
         placed = n .1 .1 .1 .0;
-        tiles = λ t. ap (λ z. sift (drawShows boxOf t ds) (layerShows t (v .tree .layers)) [] 0 z) lists
-            ∙ sifted boxOf t (drawShows boxOf t ds) (layerShows t (v .tree .layers)) x (agrees boxOf t ds (v .tree .layers) 1 x [] [] at-front (n .1 .1 .1 .1) stand)
-            ∙ sym (scene-kept boxOf t x);
+        tiles = λ s t is. tiles-listed x v ds t lists table (n .1 .1 .1 .1) stand s is;
       }
 
   -- what is promised of a run

@@ -1,6 +1,6 @@
 -- The sieve over the full walk's entries keeps what the tile shows of the sheet.
 use mathlib.Core.Path.{_≡_, refl, sym, ap, ap₂, subst, _∙_}
-use mathlib.Core.Bool.{Bool, true, false, cond}
+use mathlib.Core.Bool.{Bool, true, false, not, cond}
 use mathlib.Core.List.{List, [], _∷_, _++_, append-assoc, map}
 use Prim.Native.Nat.{ℕ, zero, suc, _+_, _<_, _≤_}
 use native.Mathlib.Omega.{arith}
@@ -22,7 +22,7 @@ use Rattle.walk.specs.declared.listed.Listed.{Listed}
 use Rattle.walk.specs.declared.listed.Listed.the-variants as listed
 use Rattle.walk.specs.declared.showing.Showing.{Showing}
 use Rattle.walk.specs.declared.showing.Showing.the-variants as showings
-use Rattle.walk.specs.Tile.{sift, entering, deeper, boxShows, drawShows, showing, showingKind, layerShows}
+use Rattle.walk.specs.Tile.{sift, entering, deeper, boxShows, drawShows, showing, showingKind, layerShows, filterKind, filterAt}
 use Rattle.ledger.specs.Laws.{Each, Stands}
 use Rattle.ledger.specs.Ledger.{Opening, Entry, Draw, Enter, Leave, number, numbers}
 use Rattle.ledger.specs.Sheet.{Sheet, end, draw, layer, entries, orNothing, closedAs, contents, layerRecord, records}
@@ -30,19 +30,19 @@ use Rattle.ledger.specs.Tiles.{regular}
 use Rattle.ledger.proofs.Sheets.{size, Ordered, length-records}
 use Rattle.ledger.proofs.Tiles.{showsAs, keptLayer, kept}
 
-module _ {D : Type 0} (boxOf : D → Option RectU16) (t : Tile) (seen : ℕ → Bool) (shows : ℕ → Showing) where
+-- the entries of a layer, with what comes after
+pub layer-entries : {D : Type 0} (n : ℕ) (o : Opening) (inside rest : Sheet D) (ys : List Listed)
+    → numbers (entries (layer n o inside rest)) ++ ys ≡ listed.Enter n ∷ (numbers (entries inside) ++ (listed.Leave n ∷ (numbers (entries rest) ++ ys)))
+layer-entries n o inside rest ys =
+    ap (λ z. listed.Enter n ∷ (z ++ ys)) (map-append number (entries inside) (Leave n ∷ entries rest))
+    ∙ ap (λ z. listed.Enter n ∷ z) (append-assoc (numbers (entries inside)) (listed.Leave n ∷ numbers (entries rest)) ys)
+
+module _ {D : Type 0} (boxOf : D → Option RectU16) (t : Tile) (seen : ℕ → Bool) (shows : ℕ → Showing) (filters : ℕ → Bool) where
   -- draws and layers are seen by their numbers as the sheet has them
   abbrev pub Agrees : Sheet D → Type 0
   Agrees end = Unit {0}
   Agrees (draw n d rest) = (seen n ≡ boxShows t (boxOf d)) × Agrees rest
-  Agrees (layer n o inside rest) = (shows n ≡ showsAs t o (contents boxOf inside)) × (Agrees inside × Agrees rest)
-
-  -- the entries of a layer, with what comes after
-  layer-entries : (n : ℕ) (o : Opening) (inside rest : Sheet D) (ys : List Listed)
-      → numbers (entries (layer n o inside rest)) ++ ys ≡ listed.Enter n ∷ (numbers (entries inside) ++ (listed.Leave n ∷ (numbers (entries rest) ++ ys)))
-  layer-entries n o inside rest ys =
-      ap (λ z. listed.Enter n ∷ (z ++ ys)) (map-append number (entries inside) (Leave n ∷ entries rest))
-      ∙ ap (λ z. listed.Enter n ∷ z) (append-assoc (numbers (entries inside)) (listed.Leave n ∷ numbers (entries rest)) ys)
+  Agrees (layer n o inside rest) = ((shows n ≡ showsAs t o (contents boxOf inside)) × (filters n ≡ not (regular (o .filter)))) × (Agrees inside × Agrees rest)
 
   sift-passed : (x : Sheet D) (out : List Listed) (k : ℕ) (ys : List Listed) → sift seen shows out (suc k) (numbers (entries x) ++ ys) ≡ sift seen shows out (suc k) ys
   sift-passed end out k ys = refl
@@ -89,7 +89,7 @@ module _ {D : Type 0} (boxOf : D → Option RectU16) (t : Tile) (seen : ℕ → 
   sift-kept (draw n d rest) a out ys = sift-draw (boxShows t (boxOf d)) n d rest (a .0) (sift-kept rest (a .1)) out ys
   sift-kept (layer n o inside rest) a out ys =
       ap (λ z. sift seen shows out 0 z) (layer-entries n o inside rest ys)
-      ∙ sift-layer (showsAs t o (contents boxOf inside)) n inside rest (a .0) (sift-kept inside (a .1 .0)) (sift-kept rest (a .1 .1)) out ys
+      ∙ sift-layer (showsAs t o (contents boxOf inside)) n inside rest (a .0 .0) (sift-kept inside (a .1 .0)) (sift-kept rest (a .1 .1)) out ys
 
   pub sifted : (x : Sheet D) → Agrees x → sift seen shows [] 0 (numbers (entries x)) ≡ kept boxOf t x
   sifted x a = ap (λ z. sift seen shows [] 0 z) (sym (append-nil (numbers (entries x)))) ∙ sift-kept x a [] []
@@ -110,6 +110,18 @@ layer-at : (t : Tile) (before : List RecordedLayer) (x : RecordedLayer) (behind 
 layer-at t [] x behind = refl
 layer-at t (y ∷ before) x behind = layer-at t before x behind
 
+filter-at : (before : List RecordedLayer) (x : RecordedLayer) (behind : List RecordedLayer) → filterAt (before ++ (x ∷ behind)) (length before) ≡ filterKind (x .kind)
+filter-at [] x behind = refl
+filter-at (y ∷ before) x behind = filter-at before x behind
+
+filter-record : (f : Option FilterData) (clip c : Option RectU16) → filterKind (placedKind (orNothing (closingBy f clip c) .placement) (openKind f)) ≡ not (regular f)
+filter-record None clip c = refl
+filter-record (Some f) clip c = go (orNothing (closingBy (Some f) clip c) .placement)
+  where
+    go : (p : Option FilterLayerPlacement) → filterKind (placedKind p (openKind (Some f))) ≡ true
+    go None = refl
+    go (Some p) = refl
+
 module _ {D : Type 0} (boxOf : D → Option RectU16) (t : Tile) where
   draw-at : (ds : List D) (n : ℕ) (d : D) → n < length ds → getD ds n d ≡ d → drawShows boxOf t ds n ≡ boxShows t (boxOf d)
   draw-at [] n d h e = absurd (omega arith)
@@ -122,7 +134,7 @@ module _ {D : Type 0} (boxOf : D → Option RectU16) (t : Tile) where
 
   -- the layer table has the sheet's records behind the first ones, and every draw stands at its place
   pub agrees : (ds : List D) (table : List RecordedLayer) (depth : ℕ) (x : Sheet D) (before behind : List RecordedLayer) → table ≡ before ++ (records boxOf depth x ++ behind) → Ordered (length before) x
-      → Each (Stands ds) (entries x) → Agrees boxOf t (drawShows boxOf t ds) (layerShows t table) x
+      → Each (Stands ds) (entries x) → Agrees boxOf t (drawShows boxOf t ds) (layerShows t table) (filterAt table) x
   agrees ds table depth end before behind e o s = tt
   agrees ds table depth (draw n d rest) before behind e o s = (draw-at ds n d (s .0 .0) (s .0 .1 d), agrees ds table depth rest before behind e o (s .1))
   agrees ds table depth (layer n o inside rest) before behind e q s =
@@ -138,7 +150,10 @@ module _ {D : Type 0} (boxOf : D → Option RectU16) (t : Tile) where
       let c = length-records boxOf (depth + 1) inside in
       let one : suc (length before) ≡ length (before ++ (r ∷ [])) = omega arith in
       let more : suc (length before + size inside) ≡ length (before ++ (r ∷ i)) = omega arith in (
-        here ∙ shows-record t (o .filter) (clipBox (o .props .«clip_path»)) (contents boxOf inside),
+        (
+          here ∙ shows-record t (o .filter) (clipBox (o .props .«clip_path»)) (contents boxOf inside),
+          ap₂ filterAt e (q .0) ∙ filter-at before r ((i ++ j) ++ behind) ∙ filter-record (o .filter) (clipBox (o .props .«clip_path»)) (contents boxOf inside),
+        ),
         (
           agrees ds table (depth + 1) inside (before ++ (r ∷ [])) (j ++ behind) in-table (subst (λ k. Ordered k inside) one (q .1 .0)) (parts .0),
           agrees ds table depth rest (before ++ (r ∷ i)) behind past-table (subst (λ k. Ordered k rest) more (q .1 .1)) (parts .1 .1),

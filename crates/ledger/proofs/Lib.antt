@@ -7,3 +7,4 @@ pub mod Sheets
 pub mod Nesteds
 pub mod Tiles
 pub mod Kepts
+pub mod Surfaces

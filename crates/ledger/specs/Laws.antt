@@ -1,5 +1,6 @@
 -- The laws over whole runs.
 use mathlib.Core.Path.{_≡_}
+use mathlib.Core.Bool.{true}
 use mathlib.Core.List.{List, [], _∷_}
 use Prim.Native.Nat.{ℕ, _<_}
 use lib.ListN.{length, getD}
@@ -10,8 +11,8 @@ use Rattle.record.specs.Recording.{Recording}
 use Rattle.walk.specs.FullWalk.{listed}
 use Rattle.ledger.specs.Ledger.{Entry, Draw, Enter, Leave, Ledger, opened, numbers}
 use Rattle.geometry.specs.declared.tile.Tile.{Tile}
-use Rattle.walk.specs.declared.surface.Surface.the-variants.{Scene}
-use Rattle.walk.specs.Tile.{drawShows, tileListed}
+use Rattle.walk.specs.declared.surface.Surface.{Surface}
+use Rattle.walk.specs.Tile.{drawShows, isSurface, tileListed}
 use Rattle.ledger.specs.Runs.{recorded}
 use Rattle.ledger.specs.Sheet.{Sheet, entries, records, Placed}
 use Rattle.ledger.specs.Tiles.{tileList}
@@ -35,8 +36,8 @@ pub record Nesting {D : Type 0} (boxOf : D → Option RectU16) (es : List (Entry
   pub layers : r .tree .layers ≡ records boxOf 1 sheet
   -- every filter layer with contents lies where it should
   pub placed : Placed boxOf sheet
-  -- the list of each tile on the scene is the one that the nesting gives, by clips
-  pub tiles : (t : Tile) → tileListed Scene t (drawShows boxOf t ds) r ≡ tileList boxOf Scene t sheet
+  -- the list of each tile on the scene, and on every filter layer's surface, is the one that the nesting gives, by clips
+  pub tiles : (s : Surface) (t : Tile) → isSurface s (r .tree .layers) ≡ true → tileListed s t (drawShows boxOf t ds) r ≡ tileList boxOf s t sheet
 
 -- The ledger b led to the recording r and the draw list ds.
 pub record Led {D : Type 0} (boxOf : D → Option RectU16) (modeOf : D → Option BlendMode) (b : Ledger D) (r : Recording) (ds : List D) : Type 0 where
