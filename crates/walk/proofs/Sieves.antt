@@ -1,8 +1,8 @@
 -- What a tile shows of the entries of a full walk.
 use mathlib.Core.Path.{_≡_, refl, sym, ap, _∙_}
 use mathlib.Core.List.{List, [], _∷_, _++_, append-assoc}
-use mathlib.Core.Bool.{Bool, true, false, cond}
-use Prim.Native.Nat.{ℕ, zero, suc, _+_, _-_, _<_, _≤_}
+use mathlib.Core.Bool.{Bool, true, false}
+use Prim.Native.Nat.{ℕ, zero, suc, _+_, _-_, _≤_}
 use native.Mathlib.Omega.{arith}
 use lib.ListN.{length, length-append}
 use Rattle.std.proofs.shelf.Lists.{append-nil}
@@ -13,7 +13,6 @@ use Rattle.walk.specs.declared.showing.Showing.the-variants.{Through, Placed, 
 use Rattle.walk.specs.Tile.{sift, drawing, entering, deeper}
 use Rattle.walk.specs.TileSteps.{picked, Blind, Sieved}
 use Rattle.walk.specs.Walk.{spanned}
-use Rattle.walk.proofs.Counts.{length-spanned}
 use Rattle.walk.proofs.Stretches.{around}
 
 pub blind-none : Blind []

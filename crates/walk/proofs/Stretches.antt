@@ -2,7 +2,7 @@
 use mathlib.Core.Path.{_≡_, refl, sym, ap, subst, _∙_}
 use mathlib.Core.List.{List, [], _∷_, _++_, append-assoc}
 use mathlib.Core.Bool.{Bool, true, false, cond}
-use Prim.Native.Nat.{ℕ, zero, suc, _+_, _-_, _*_, _<_, _≤_}
+use Prim.Native.Nat.{ℕ, zero, suc, _+_, _-_, _<_, _≤_}
 use native.Mathlib.Omega.{arith}
 use lib.Dec.{eqb}
 use lib.ListN.{length, drop, length-append}
@@ -18,7 +18,7 @@ use Rattle.walk.specs.Tile.{until}
 use Rattle.walk.specs.TileSteps.{Lacks, Stretch}
 use Rattle.walk.specs.Walk.{walk, told, leaves, unwind, spanned, entered, starts, room}
 use Rattle.walk.proofs.Counts.{length-spanned}
-use Rattle.walk.proofs.Walks.{walk-here, walk-leave, walk-done}
+use Rattle.walk.proofs.Walks.{walk-here, walk-leave}
 
 -- a walk only adds to the entries
 unwind-out : (p out : List Listed) (s : List ℕ) → unwind (p ++ out) s ≡ p ++ unwind out s

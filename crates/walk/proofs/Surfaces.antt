@@ -1,9 +1,9 @@
 -- Where a surface's entries stand among those of the full walk.
 use mathlib.Core.Path.{_≡_, refl, sym, ap, subst, _∙_}
 use mathlib.Core.List.{List, [], _∷_, _++_, reverse, reverse-cons, append-assoc}
-use mathlib.Core.Bool.{Bool, true, false, cond, _||_}
+use mathlib.Core.Bool.{true, false, cond}
 use mathlib.Core.Logic.{⊎-elim}
-use Prim.Native.Nat.{ℕ, zero, suc, _+_, _-_, _*_, _<_, _≤_}
+use Prim.Native.Nat.{ℕ, zero, suc, _+_, _-_, _<_, _≤_}
 use native.Mathlib.Omega.{arith}
 use lib.Dec.{eqb}
 use lib.ListN.{length, getD, drop}
@@ -19,9 +19,9 @@ use Rattle.walk.specs.declared.listed.Listed.{Listed}
 use Rattle.walk.specs.declared.listed.Listed.the-variants.{Draw, Enter, Leave, Filter}
 use Rattle.walk.specs.declared.surface.Surface.{Surface}
 use Rattle.walk.specs.declared.surface.Surface.the-variants.{Scene, Layer}
-use Rattle.walk.specs.Tile.{after, until, inside, filterAt, isSurface, ownerOf, pastHolder, startOf}
-use Rattle.walk.specs.TileSteps.{Lacks, Stretch}
-use Rattle.walk.specs.Walk.{walk, told, leaves, spanned, entered, starts}
+use Rattle.walk.specs.Tile.{after, until, inside, filterAt, isSurface}
+use Rattle.walk.specs.TileSteps.{ownerOf, pastHolder, startOf, Lacks, Stretch}
+use Rattle.walk.specs.Walk.{walk, leaves, spanned, entered, starts}
 use Rattle.walk.proofs.Counts.{lines, walk-reverse}
 use Rattle.walk.proofs.Stretches.{walk-from, leave}
 use Rattle.walk.proofs.Walks.{walk-done}

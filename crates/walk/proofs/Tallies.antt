@@ -3,10 +3,10 @@ use mathlib.Core.Path.{_≡_, refl, sym, ap, subst, _∙_}
 use mathlib.Core.List.{List, [], _∷_, _++_, append-assoc}
 use mathlib.Core.Bool.{Bool, true, false, _||_}
 use mathlib.Core.Logic.{_⊎_, inl, inr, ⊎-elim}
-use Prim.Native.Nat.{ℕ, zero, suc, _+_, _<_, _≤_}
+use Prim.Native.Nat.{ℕ, suc, _+_, _<_, _≤_}
 use native.Mathlib.Omega.{arith}
 use lib.Dec.{eqb}
-use lib.ListN.{length, set, take, drop, length-set, length-append}
+use lib.ListN.{length, set, take, drop, length-set}
 use Rattle.std.specs.Options.{Cases, isSome}
 use Rattle.std.specs.declared.option.Option.{Option}
 use Rattle.std.specs.declared.option.Option.the-variants.{Some, None}
@@ -47,7 +47,7 @@ added-then {xs} {ys} {t} {u} {v} {out} {mid} {end} p q = record {
 }
 
 -- where there are places for all entries, they stand between what stood before and after them
-pub poured-whole : (a : ℕ) (es out : List Listed) → a + length es ≤ length out → poured a es out ≡ take a out ++ (es ++ drop (a + length es) out)
+poured-whole : (a : ℕ) (es out : List Listed) → a + length es ≤ length out → poured a es out ≡ take a out ++ (es ++ drop (a + length es) out)
 poured-whole a [] out h = let e : a + 0 ≡ a = omega arith in rw e (sym (take-append-drop a out))
 poured-whole a (x ∷ es) out h =
     let lt : a < length out = omega arith in

@@ -1,5 +1,5 @@
 -- The steps of a tile walk: a node's draws, a layer that is entered, and a layer that is passed over.
-use mathlib.Core.Path.{_≡_, refl, sym, ap, _∙_}
+use mathlib.Core.Path.{_≡_}
 use mathlib.Core.List.{List, [], _∷_, _++_}
 use mathlib.Core.Bool.{Bool, true, false}
 use Prim.Native.Nat.{ℕ, _+_, _-_, _<_, _≤_}
@@ -18,7 +18,7 @@ use Rattle.walk.specs.Tally.{Added}
 use Rattle.walk.specs.Tile.{entering, deeper}
 use Rattle.walk.specs.TileSteps.{picked, Passed, Sifted}
 use Rattle.walk.specs.Walk.{starts, room}
-use Rattle.walk.proofs.Sieves.{blind-none, blind-then, blind-draws, blind-layer, sieved-none, sieved-then, sieved-draws, sieved-through, sieved-over, length-picked}
+use Rattle.walk.proofs.Sieves.{blind-then, blind-draws, blind-layer, sieved-none, sieved-then, sieved-draws, sieved-through, sieved-over, length-picked}
 use Rattle.walk.proofs.Stretches.{own-draws, around, stretch-none, stretch-then, stretch-draws, stretch-layer}
 use Rattle.walk.proofs.Tallies.{added-none, added-then, added-count}
 
@@ -27,9 +27,6 @@ pub drawn-count : (seen : ℕ → Bool) (a k : ℕ) {t u : Tally} {out mid : Lis
 drawn-count seen a k w = omega (arith, added-count w, length-picked seen a k)
 
 module _ (ns : List Node) (o : Option ℕ) where
-  pub passed-none : (i : ℕ) → i ≤ length ns → Passed ns o i i
-  passed-none i h = record { whole = []; stretch = stretch-none ns o i h; blind = blind-none }
-
   pub passed-then : {i j k : ℕ} → Passed ns o i j → Passed ns o j k → Passed ns o i k
   passed-then {i} {j} {k} p q = record { whole = p .whole ++ q .whole; stretch = stretch-then ns o (p .stretch) (q .stretch); blind = blind-then (p .whole) (q .whole) (p .blind) (q .blind) }
 

@@ -15,10 +15,8 @@ use Rattle.filter.specs.Placement.{destOf}
 use Rattle.record.specs.declared.layer.RecordedLayer.{RecordedLayer}
 use Rattle.record.specs.declared.layer.RecordedLayerKind.{RecordedLayerKind}
 use Rattle.record.specs.declared.layer.RecordedLayerKind.the-variants as kind
-use Rattle.record.specs.declared.node.Node.{Node}
 use Rattle.record.specs.Account.{atRoot}
 use Rattle.record.specs.Recording.{Recording}
-use Rattle.record.specs.Table.{same}
 use Rattle.walk.specs.declared.listed.Listed.{Listed}
 use Rattle.walk.specs.declared.listed.Listed.the-variants.{Draw, Enter, Leave, Filter}
 use Rattle.walk.specs.declared.showing.Showing.{Showing}
@@ -106,6 +104,7 @@ inside (Layer l) es = until l (after l es)
 abbrev pub tileListed : Surface → Tile → (ℕ → Bool) → Recording → List Listed
 tileListed s t seen r = sift seen (layerShows t (r .tree .layers)) [] 0 (inside s (listed r))
 
+-- whether this is the kind of a filter layer
 abbrev pub filterKind : RecordedLayerKind → Bool
 filterKind kind.Regular = false
 filterKind (kind.Filter f p) = true
@@ -129,7 +128,7 @@ tileFits t = leb (t .x) 16382 && leb (t .y) 16382
 abbrev pub surfaceQuestions : Surface → Tile → Recording → ℕ → List Question
 surfaceQuestions s t r drawn = (atRoot (r .account .opened), 10) ∷ (isSurface s (r .tree .layers), 12) ∷ (tileFits t, 13) ∷ (leb (r .account .drawn) drawn, 14) ∷ []
 
--- the same, and the output list has a place for every entry
+-- the five questions in order: the last is whether the output list has a place for every entry
 abbrev pub tileQuestions : Surface → Tile → (ℕ → Bool) → Recording → ℕ → ℕ → List Question
 tileQuestions s t seen r drawn places = surfaceQuestions s t r drawn ++ ((leb (length (tileListed s t seen r)) places, 11) ∷ [])
 
@@ -138,7 +137,7 @@ pub record TileWalk (s : Surface) (t : Tile) (seen : ℕ → Bool) (r : Recordin
   pub count : n ≡ length (tileListed s t seen r)
   pub written : out′ ≡ tileListed s t seen r ++ drop n out
 
--- of the scene's list a hit asks no place
+-- a hit asks for no surface and no places
 abbrev pub hitQuestions : Tile → Recording → ℕ → List Question
 hitQuestions t r drawn = (atRoot (r .account .opened), 10) ∷ (tileFits t, 13) ∷ (leb (r .account .drawn) drawn, 14) ∷ []
 
@@ -157,18 +156,3 @@ anyDraw (Draw n ∷ es) = true
 anyDraw (Enter l ∷ es) = anyDraw es
 anyDraw (Leave l ∷ es) = anyDraw es
 anyDraw (Filter l ∷ es) = anyDraw es
-
--- the layer whose nodes lie on the surface
-abbrev pub ownerOf : Surface → Option ℕ
-ownerOf Scene = None
-ownerOf (Layer l) = Some l
-
--- the place after the node that holds layer l
-abbrev pub pastHolder : ℕ → List Node → ℕ
-pastHolder l [] = 0
-pastHolder l (x ∷ ns) = cond (same (x .layer) (Some l)) 1 (suc (pastHolder l ns))
-
--- the place of the owner's first node
-abbrev pub startOf : Option ℕ → List Node → ℕ
-startOf None ns = 0
-startOf (Some l) ns = pastHolder l ns

@@ -1,19 +1,36 @@
 -- How a tile walk goes from node to node.
 use mathlib.Core.Path.{_≡_}
-use mathlib.Core.Bool.{Bool, false}
+use mathlib.Core.Bool.{Bool, false, cond}
 use mathlib.Core.List.{List, [], _∷_, _++_}
 use Prim.Native.Nat.{ℕ, zero, suc, _+_, _≤_}
 use lib.ListN.{length, drop}
 use Rattle.std.specs.declared.option.Option.{Option}
-use Rattle.std.specs.declared.option.Option.the-variants.{Some}
+use Rattle.std.specs.declared.option.Option.the-variants.{Some, None}
 use Rattle.record.specs.declared.node.Node.{Node}
 use Rattle.record.specs.Table.{same, top, held}
 use Rattle.walk.specs.declared.listed.Listed.{Listed}
 use Rattle.walk.specs.declared.showing.Showing.{Showing}
+use Rattle.walk.specs.declared.surface.Surface.{Surface}
+use Rattle.walk.specs.declared.surface.Surface.the-variants.{Scene, Layer}
 use Rattle.walk.specs.declared.tally.Tally.{Tally}
 use Rattle.walk.specs.Tally.{Added}
 use Rattle.walk.specs.Tile.{sift, drawing, until}
 use Rattle.walk.specs.Walk.{walk, room}
+
+-- the layer whose nodes lie on the surface
+abbrev pub ownerOf : Surface → Option ℕ
+ownerOf Scene = None
+ownerOf (Layer l) = Some l
+
+-- the place after the node that holds layer l
+abbrev pub pastHolder : ℕ → List Node → ℕ
+pastHolder l [] = 0
+pastHolder l (x ∷ ns) = cond (same (x .layer) (Some l)) 1 (suc (pastHolder l ns))
+
+-- the place of the owner's first node
+abbrev pub startOf : Option ℕ → List Node → ℕ
+startOf None ns = 0
+startOf (Some l) ns = pastHolder l ns
 
 -- those of the k draws from a on that are seen
 abbrev pub picked : (ℕ → Bool) → ℕ → ℕ → List Listed

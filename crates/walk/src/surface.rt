@@ -1,6 +1,7 @@
 // What a tile walk starts at.
 ghost use mathlib.Core.Path.{_≡_};
-ghost use Rattle.walk.specs.Tile.{isSurface, ownerOf, filterAt, pastHolder, startOf};
+ghost use Rattle.walk.specs.Tile.{isSurface, filterAt};
+ghost use Rattle.walk.specs.TileSteps.{ownerOf, pastHolder, startOf};
 use record::layer::RecordedLayer;
 use record::layer::RecordedLayerKind;
 use record::node::Node;

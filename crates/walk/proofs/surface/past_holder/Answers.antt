@@ -1,7 +1,7 @@
-use mathlib.Core.Path.{_≡_, sym, ap, _∙_}
+use mathlib.Core.Path.{sym, ap, _∙_}
 use native.Mathlib.Omega.{arith}
 use Rattle.std.proofs.shelf.Lists.{drop-all}
-use Rattle.walk.specs.Tile.{pastHolder}
+use Rattle.walk.specs.TileSteps.{pastHolder}
 use Rattle.walk.proofs.Surfaces.{past-here, past-next}
 use Rattle.walk.proofs.surface.past_holder.Needs as need
 

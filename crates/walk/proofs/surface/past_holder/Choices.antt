@@ -1,7 +1,7 @@
 use Prim.Native.Nat.{_+_, _-_}
 use mathlib.Core.Path.{_≡_}
 use lib.ListN.{length, drop}
-use Rattle.walk.specs.Tile.{pastHolder}
+use Rattle.walk.specs.TileSteps.{pastHolder}
 use Rattle.walk.proofs.surface.past_holder.Given as given
 
 -- no node before i holds the layer

@@ -1,5 +1,5 @@
 -- A turn goes by the node at i, `here`, and the two steps of `Tiles`.
-use mathlib.Core.Path.{_≡_, sym, ap}
+use mathlib.Core.Path.{sym, ap}
 use native.Mathlib.Omega.{arith}
 use Prim.Native.Nat.{_≤_}
 use Rattle.record.specs.Table.{holding}

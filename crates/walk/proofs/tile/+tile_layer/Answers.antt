@@ -1,7 +1,7 @@
 -- A turn goes by the node at i, `here`, and the three steps of `Tiles`.
-use mathlib.Core.Path.{_≡_, refl, sym, ap}
+use mathlib.Core.Path.{refl, sym, ap}
 use native.Mathlib.Omega.{arith}
-use Prim.Native.Nat.{_+_, _-_, _<_, _≤_}
+use Prim.Native.Nat.{_-_, _≤_}
 use Rattle.std.specs.declared.option.Option.the-variants.{Some}
 use lib.ListN.{getD}
 use Rattle.record.specs.Table.{blank, holding}

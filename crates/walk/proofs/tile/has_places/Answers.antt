@@ -9,7 +9,6 @@ use Rattle.std.proofs.shelf.Tests.{le-leb}
 use Rattle.record.specs.Recording.{recording}
 use Rattle.walk.specs.FullWalk.{listed, entryCount}
 use Rattle.walk.specs.Tile.{drawShows, layerShows, inside, tileListed}
-use Rattle.walk.specs.Walk.{room}
 use Rattle.walk.proofs.Counts.{walk-length, room-counted}
 use Rattle.walk.proofs.Sieves.{length-sift}
 use Rattle.walk.proofs.Surfaces.{length-inside}

@@ -1,16 +1,15 @@
 use mathlib.Core.Path.{_≡_, sym, ap, _∙_}
 use mathlib.Core.List.{[]}
 use mathlib.Core.Logic.{∥∥₁-elim}
-use Prim.Native.Nat.{_≤_}
 use native.Mathlib.Omega.{arith}
 use base.Stored.{coded-set, codedList}
 use denote.Struct.Props.{props}
-use lib.ListN.{length}
 use Rattle.record.specs.Recording.{recording}
 use Rattle.record.specs.Table.{held}
 use Rattle.walk.specs.contracts.listed.Listed.{the-row}
 use Rattle.walk.specs.FullWalk.{listed, entryCount}
-use Rattle.walk.specs.Tile.{drawShows, layerShows, inside, sift, tileListed, ownerOf}
+use Rattle.walk.specs.Tile.{drawShows, layerShows, inside, sift, tileListed}
+use Rattle.walk.specs.TileSteps.{ownerOf}
 use Rattle.walk.specs.Walk.{room}
 use Rattle.walk.proofs.Counts.{room-reverse, held-reverse, room-counted, room-drop, held-drop}
 use Rattle.walk.proofs.Sieves.{sieved-all}
