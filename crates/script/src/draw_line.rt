@@ -1,4 +1,5 @@
 // The kinds of draw, as a script writes them.
+ghost use Rattle.script.specs.Parts.{left, Reads, rectOf, modeOf};
 use crate::fault::Reason;
 use crate::words::Words;
 use draws::blend::BlendMode;
@@ -25,7 +26,9 @@ pub trait DrawLine: Drawable + Clone + Copy {
     fn read(word: &str, words: &mut Words<'_>) -> Result<Result<Self, Refusal>, Reason>;
 }
 
-pub fn read_rect(words: &mut Words<'_>) -> Result<RectU16, Reason> {
+pub fn read_rect(words: &mut Words<'_>) -> Result<RectU16, Reason>
+    ensures { λ r. ⌜ Reads rectOf (left (now (words .entry))) r (left (now (words .exit))) ⌝ }
+{
     let x0 = words.number16()?;
     let y0 = words.number16()?;
     let x1 = words.number16()?;
@@ -33,7 +36,9 @@ pub fn read_rect(words: &mut Words<'_>) -> Result<RectU16, Reason> {
     Ok(RectU16::new(x0, y0, x1, y1))
 }
 
-pub fn read_mode(words: &mut Words<'_>) -> Result<Option<BlendMode>, Reason> {
+pub fn read_mode(words: &mut Words<'_>) -> Result<Option<BlendMode>, Reason>
+    ensures { λ r. ⌜ Reads modeOf (left (now (words .entry))) r (left (now (words .exit))) ⌝ }
+{
     if !words.take("mode") {
         return Ok(None);
     }

@@ -1,4 +1,5 @@
 // What one line of a script says.
+ghost use Rattle.script.specs.Parts.{left, Reads, stripOf, roomOf};
 use crate::call::Call;
 use crate::call::CallClone;
 use crate::draw_line::DrawLine;
@@ -25,14 +26,18 @@ pub fn read_kind(words: &mut Words<'_>) -> Result<Kind, Reason> {
     }
 }
 
-fn read_strip(words: &mut Words<'_>) -> Result<Strip, Reason> {
+fn read_strip(words: &mut Words<'_>) -> Result<Strip, Reason>
+    ensures { λ r. ⌜ Reads stripOf (left (now (words .entry))) r (left (now (words .exit))) ⌝ }
+{
     let x = words.number16()?;
     let y = words.number16()?;
     let width = words.number16()?;
     Ok(Strip { x, y, width })
 }
 
-fn read_room(words: &mut Words<'_>) -> Result<Option<u32>, Reason> {
+fn read_room(words: &mut Words<'_>) -> Result<Option<u32>, Reason>
+    ensures { λ r. ⌜ Reads roomOf (left (now (words .entry))) r (left (now (words .exit))) ⌝ }
+{
     if !words.take("room") {
         return Ok(None);
     }
