@@ -1,3 +1,4 @@
+pub mod Calls
 pub mod Numbers
 pub mod Parts
 pub mod Words

@@ -18,6 +18,7 @@ use Rattle.geometry.specs.declared.padding.PaddingU16.{PaddingU16}
 use Rattle.geometry.specs.declared.rect.RectU16.{RectU16}
 use Rattle.filter.specs.declared.data.FilterData.{FilterData}
 use Rattle.draws.specs.declared.blend.BlendMode.{BlendMode}
+use Rattle.draws.specs.declared.run.Run.{Run}
 use Rattle.draws.specs.declared.strip.Strip.{Strip}
 use Rattle.record.specs.declared.props.LayerClip.{LayerClip}
 use Rattle.record.specs.declared.props.LayerProps.{LayerProps}
@@ -90,6 +91,14 @@ mixAndCompose words =
 
 abbrev pub modeOf : Line → Read (Option BlendMode)
 modeOf words = optional (codes "mode") mixAndCompose words
+
+abbrev pub fillOf : Line → Read (RectU16 × Option BlendMode)
+fillOf words =
+    andThen (rectOf words) (λ rect words. andThen (modeOf words) (λ mode words. Some ((rect, mode), words)))
+
+abbrev pub runOf : Line → Read Run
+runOf words =
+    andThen (countOf words) (λ start words. andThen (countOf words) (λ end words. Some (record { start = start; end = end }, words)))
 
 abbrev pub maskOf : Line → Read (Option ℕ)
 maskOf words = optional (codes "mask") countOf words

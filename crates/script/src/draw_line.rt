@@ -1,5 +1,20 @@
 // The kinds of draw, as a script writes them.
-ghost use Rattle.script.specs.Parts.{left, Reads, rectOf, modeOf};
+ghost use mathlib.Core.Path.{_≡_};
+ghost use mathlib.Core.List.{List, [], _∷_};
+ghost use Prim.Native.Nat.{ℕ};
+ghost use lib.Chars.{codes};
+ghost use Rattle.std.specs.Results.{Cases};
+ghost use Rattle.std.specs.declared.option.Option.{Option};
+ghost use Rattle.std.specs.declared.option.Option.the-variants.{Some};
+ghost use Rattle.std.specs.declared.result.Result.{Result};
+ghost use Rattle.std.specs.declared.result.Result.the-variants.{Ok};
+ghost use Rattle.geometry.specs.declared.rect.RectU16.{RectU16};
+ghost use Rattle.refusal.specs.Refusals.{Answers};
+ghost use Rattle.refusal.specs.declared.Refusal.{Refusal};
+ghost use Rattle.draws.specs.Fits.{fits};
+ghost use Rattle.draws.specs.declared.blend.BlendMode.{BlendMode};
+ghost use Rattle.draws.specs.declared.run.Run.{Run};
+ghost use Rattle.script.specs.Parts.{left, Reads, rectOf, modeOf, fillOf, runOf};
 use crate::fault::Reason;
 use crate::words::Words;
 use draws::blend::BlendMode;
@@ -22,8 +37,12 @@ pub trait DrawLine: Drawable + Clone + Copy {
     // What stands in a draw list where no draw is recorded yet.
     fn blank() -> Self;
 
+    // The first word of a line and those after it say the draw, and the last ones are left.
+    ghost Written: { List ℕ → List (List ℕ) → Result Self Refusal → List (List ℕ) → Type 0 };
+
     // The draw of a line that begins with `word`, or why there is no such draw.
-    fn read(word: &str, words: &mut Words<'_>) -> Result<Result<Self, Refusal>, Reason>;
+    fn read(word: &str, words: &mut Words<'_>) -> Result<Result<Self, Refusal>, Reason>
+        ensures { λ r. ⌜ Cases r (λ draw. Written (now (word .entry)) (left (now (words .entry))) draw (left (now (words .exit)))) (λ _. Unit {0}) ⌝ };
 }
 
 pub fn read_rect(words: &mut Words<'_>) -> Result<RectU16, Reason>
@@ -48,6 +67,8 @@ pub fn read_mode(words: &mut Words<'_>) -> Result<Option<BlendMode>, Reason>
 }
 
 pub impl DrawLine for Fill as FillDrawLine {
+    ghost Written = { λ word before draw after. (word ≡ codes "fill") × ((rect : RectU16) × (mode : Option BlendMode) × (fillOf before ≡ Some ((rect, mode), after)) × Answers ((fits rect, 1) ∷ []) draw (λ f. (f .rect ≡ rect) × (f .«blend_mode» ≡ mode)) (Unit {0})) };
+
     fn blank() -> Fill {
         Fill::new(RectU16::ZERO, None).unwrap()
     }
@@ -63,6 +84,8 @@ pub impl DrawLine for Fill as FillDrawLine {
 }
 
 pub impl DrawLine for Run as RunDrawLine {
+    ghost Written = { λ word before draw after. (word ≡ codes "run") × ((run : Run) × (runOf before ≡ Some (run, after)) × (draw ≡ Ok run)) };
+
     fn blank() -> Run {
         Run { start: 0, end: 0 }
     }

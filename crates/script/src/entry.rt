@@ -1,4 +1,13 @@
 // What one line of a script says.
+ghost use mathlib.Core.Path.{_≡_};
+ghost use Prim.Native.Nat.{ℕ};
+ghost use Rattle.std.specs.Results.{Cases};
+ghost use Rattle.std.specs.declared.option.Option.{Option};
+ghost use Rattle.std.specs.declared.option.Option.the-variants.{Some, None};
+ghost use Rattle.filter.specs.declared.data.FilterData.{FilterData};
+ghost use Rattle.record.specs.declared.props.LayerProps.{LayerProps};
+ghost use Rattle.script.specs.declared.call.Call.the-variants.{Reset, Open};
+ghost use Rattle.script.specs.Calls.{sizeOf, openOf, Says};
 ghost use Rattle.script.specs.Parts.{left, Reads, stripOf, roomOf};
 use crate::call::Call;
 use crate::call::CallClone;
@@ -44,19 +53,25 @@ fn read_room(words: &mut Words<'_>) -> Result<Option<u32>, Reason>
     Ok(Some(words.number32()?))
 }
 
-fn read_reset<D>(words: &mut Words<'_>) -> Result<Call<D>, Reason> {
+fn read_reset<D>(words: &mut Words<'_>) -> Result<Call<D>, Reason>
+    ensures { λ r. ⌜ Cases r (λ call. (width : ℕ) × (height : ℕ) × (call ≡ Reset width height) × (sizeOf (left (now (words .entry))) ≡ Some ((width, height), (left (now (words .exit)))))) (λ _. sizeOf (left (now (words .entry))) ≡ None) ⌝ }
+{
     let width = words.number16()?;
     let height = words.number16()?;
     Ok(Call::Reset { width, height })
 }
 
-fn read_open<D>(words: &mut Words<'_>) -> Result<Call<D>, Reason> {
+fn read_open<D>(words: &mut Words<'_>) -> Result<Call<D>, Reason>
+    ensures { λ r. ⌜ Cases r (λ call. (props : LayerProps) × (filter : Option FilterData) × (call ≡ Open props filter) × (openOf (props .opacity) (left (now (words .entry))) ≡ Some ((props, filter), (left (now (words .exit)))))) (λ _. Unit {0}) ⌝ }
+{
     let props = read_props(words)?;
     let filter = read_filter(words)?;
     Ok(Call::Open { props, filter })
 }
 
-fn read_call<D: DrawLine>(word: &str, words: &mut Words<'_>) -> Result<Call<D>, Reason> {
+fn read_call<D: DrawLine>(word: &str, words: &mut Words<'_>) -> Result<Call<D>, Reason>
+    ensures { λ r. ⌜ Cases r (λ call. Says Written (now (word .entry)) (left (now (words .entry))) call (left (now (words .exit)))) (λ _. Unit {0}) ⌝ }
+{
     match word {
         "reset" => read_reset(words),
         "fill" | "run" => Ok(Call::Draw(D::read(word, words)?)),
