@@ -1,18 +1,23 @@
--- Which words say which call.
+-- Which words say which call, and what a line says.
 use mathlib.Core.Path.{_≡_}
-use mathlib.Core.List.{List}
+use mathlib.Core.List.{List, [], _∷_}
 use Prim.Native.Nat.{ℕ}
 use lib.Chars.{codes}
 use lib.Ieee.{Float}
+use lib.ListN.{getD}
 use Rattle.std.specs.declared.option.Option.{Option}
-use Rattle.std.specs.declared.option.Option.the-variants.{Some}
+use Rattle.std.specs.declared.option.Option.the-variants.{Some, None}
 use Rattle.std.specs.declared.result.Result.{Result}
 use Rattle.filter.specs.declared.data.FilterData.{FilterData}
 use Rattle.record.specs.declared.props.LayerProps.{LayerProps}
 use Rattle.refusal.specs.declared.Refusal.{Refusal}
 use Rattle.script.specs.declared.call.Call.{Call}
 use Rattle.script.specs.declared.call.Call.the-variants.{Reset, Draw, Open, Close, Walk, Report}
-use Rattle.script.specs.Parts.{Line, Read, andThen, edgeOf, propsOf, filterOf, roomOf}
+use Rattle.script.specs.declared.draw_line.Kind.{Kind}
+use Rattle.script.specs.declared.draw_line.Kind.the-variants as kind
+use Rattle.script.specs.declared.entry.Entry.{Entry}
+use Rattle.script.specs.declared.entry.Entry.the-variants as entry
+use Rattle.script.specs.Parts.{Line, Read, andThen, edgeOf, countOf, following, stripOf, propsOf, filterOf, roomOf}
 
 abbrev pub sizeOf : Line → Read (ℕ × ℕ)
 sizeOf words = andThen (edgeOf words) (λ width words. andThen (edgeOf words) (λ height words. Some ((width, height), words)))
@@ -30,3 +35,28 @@ Says Draws word before (Open props filter) after =
 Says Draws word before Close after = (word ≡ codes "close") × (before ≡ after)
 Says Draws word before (Walk room) after = (word ≡ codes "walk") × (roomOf before ≡ Some (room, after))
 Says Draws word before Report after = (word ≡ codes "report") × (before ≡ after)
+
+abbrev pub kindAfter : Option Line → Option Line → Read Kind
+kindAfter (Some rest) run = Some (kind.Fill, rest)
+kindAfter None (Some rest) = Some (kind.Run, rest)
+kindAfter None None = None
+
+abbrev pub kindOf : Line → Read Kind
+kindOf words = kindAfter (following (codes "fill") words) (following (codes "run") words)
+
+-- the same of whatever a line can say
+abbrev pub SaysEntry : {D : Type 0} → (List ℕ → Line → Result D Refusal → Line → Type 0) → List ℕ → Line → Entry D → Line → Type 0
+SaysEntry Draws word before (entry.Kind k) after = (word ≡ codes "kind") × (kindOf before ≡ Some (k, after))
+SaysEntry Draws word before (entry.Strip strip) after = (word ≡ codes "strip") × (stripOf before ≡ Some (strip, after))
+SaysEntry Draws word before (entry.Places places) after = (word ≡ codes "places") × (countOf before ≡ Some (places, after))
+SaysEntry Draws word before (entry.Call call) after = Says Draws word before call after
+
+-- a line without a word, or whose first word begins with #, is passed over
+abbrev pub PassedOver : Line → Type 0
+PassedOver [] = Unit {0}
+PassedOver (word ∷ words) = getD word 0 0 ≡ 35
+
+-- all words of the line together say the entry
+abbrev pub SaysAll : {D : Type 0} → (List ℕ → Line → Result D Refusal → Line → Type 0) → Line → Entry D → Type 0
+SaysAll Draws [] entry = ⊥
+SaysAll Draws (word ∷ words) entry = (getD word 0 0 ≡ 35 → ⊥) × SaysEntry Draws word words entry []

@@ -42,7 +42,9 @@ pub struct Words<'a> {
 }
 
 impl<'a> Words<'a> {
-    pub fn new(line: &'a str) -> Words<'a> {
+    pub fn new(line: &'a str) -> Words<'a>
+        ensures { λ r. ⌜ left r ≡ wordsOf (now (line .entry)) ⌝ }
+    {
         Words { rest: line }
     }
 
