@@ -1,3 +1,4 @@
+pub mod Feeds
 pub mod Numerals
 pub mod Splits
 pub mod Starts
