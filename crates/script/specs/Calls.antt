@@ -1,5 +1,6 @@
 -- Which words say which call, and what a line says.
 use mathlib.Core.Path.{_≡_}
+use mathlib.Core.Bool.{Bool, true, false}
 use mathlib.Core.List.{List, [], _∷_}
 use Prim.Native.Nat.{ℕ}
 use lib.Chars.{codes}
@@ -18,6 +19,14 @@ use Rattle.script.specs.declared.draw_line.Kind.the-variants as kind
 use Rattle.script.specs.declared.entry.Entry.{Entry}
 use Rattle.script.specs.declared.entry.Entry.the-variants as entry
 use Rattle.script.specs.Parts.{Line, Read, andThen, edgeOf, countOf, following, stripOf, propsOf, filterOf, roomOf}
+
+abbrev pub isDraw : {D : Type 0} → Call D → Bool
+isDraw (Reset width height) = false
+isDraw (Draw draw) = true
+isDraw (Open props filter) = false
+isDraw Close = false
+isDraw (Walk room) = false
+isDraw Report = false
 
 abbrev pub sizeOf : Line → Read (ℕ × ℕ)
 sizeOf words = andThen (edgeOf words) (λ width words. andThen (edgeOf words) (λ height words. Some ((width, height), words)))

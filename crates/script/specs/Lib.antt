@@ -2,4 +2,5 @@ pub mod Calls
 pub mod Lines
 pub mod Numbers
 pub mod Parts
+pub mod Sheets
 pub mod Words
