@@ -9,16 +9,23 @@ use lib.ListN.{getD}
 use Rattle.std.specs.declared.option.Option.{Option}
 use Rattle.std.specs.declared.option.Option.the-variants.{Some, None}
 use Rattle.std.specs.declared.result.Result.{Result}
+use Rattle.std.specs.declared.result.Result.the-variants.{Ok}
+use Rattle.geometry.specs.declared.rect.RectU16.{RectU16}
 use Rattle.filter.specs.declared.data.FilterData.{FilterData}
 use Rattle.record.specs.declared.props.LayerProps.{LayerProps}
+use Rattle.refusal.specs.Refusals.{Answers}
 use Rattle.refusal.specs.declared.Refusal.{Refusal}
+use Rattle.draws.specs.Fits.{fits}
+use Rattle.draws.specs.declared.blend.BlendMode.{BlendMode}
+use Rattle.draws.specs.declared.fill.Fill.{Fill}
+use Rattle.draws.specs.declared.run.Run.{Run}
 use Rattle.script.specs.declared.call.Call.{Call}
 use Rattle.script.specs.declared.call.Call.the-variants.{Reset, Draw, Open, Close, Walk, Report}
 use Rattle.script.specs.declared.draw_line.Kind.{Kind}
 use Rattle.script.specs.declared.draw_line.Kind.the-variants as kind
 use Rattle.script.specs.declared.entry.Entry.{Entry}
 use Rattle.script.specs.declared.entry.Entry.the-variants as entry
-use Rattle.script.specs.Parts.{Line, Read, andThen, edgeOf, countOf, following, stripOf, propsOf, filterOf, roomOf}
+use Rattle.script.specs.Parts.{Line, Read, andThen, edgeOf, countOf, following, stripOf, fillOf, runOf, propsOf, filterOf, roomOf}
 
 abbrev pub isDraw : {D : Type 0} → Call D → Bool
 isDraw (Reset width height) = false
@@ -35,15 +42,26 @@ abbrev pub openOf : Float → Line → Read (LayerProps × Option FilterData)
 openOf opacity words =
     andThen (propsOf opacity words) (λ props words. andThen (filterOf words) (λ filter words. Some ((props, filter), words)))
 
--- The first word and those before say the call, and those after are left. `Draws` says it of a draw.
-abbrev pub Says : {D : Type 0} → (List ℕ → Line → Result D Refusal → Line → Type 0) → List ℕ → Line → Call D → Line → Type 0
-Says Draws word before (Reset width height) after = (word ≡ codes "reset") × (sizeOf before ≡ Some ((width, height), after))
-Says Draws word before (Draw draw) after = Draws word before draw after
-Says Draws word before (Open props filter) after =
+-- a draw that the words after the first word may say, with what they leave
+abbrev pub Draws : Type 0 → Type 1
+Draws D = List ℕ → Line → Result D Refusal → Line → Type 0
+
+abbrev pub FillWords : Draws Fill
+FillWords word before draw after =
+    (word ≡ codes "fill") × ((rect : RectU16) × (mode : Option BlendMode) × (fillOf before ≡ Some ((rect, mode), after)) × Answers ((fits rect, 1) ∷ []) draw (λ f. (f .rect ≡ rect) × (f .«blend_mode» ≡ mode)) (Unit {0}))
+
+abbrev pub RunWords : Draws Run
+RunWords word before draw after = (word ≡ codes "run") × ((run : Run) × (runOf before ≡ Some (run, after)) × (draw ≡ Ok run))
+
+-- The first word and those before say the call, and those after are left.
+abbrev pub Says : {D : Type 0} → Draws D → List ℕ → Line → Call D → Line → Type 0
+Says draws word before (Reset width height) after = (word ≡ codes "reset") × (sizeOf before ≡ Some ((width, height), after))
+Says draws word before (Draw draw) after = draws word before draw after
+Says draws word before (Open props filter) after =
     (word ≡ codes "open") × (openOf (props .opacity) before ≡ Some ((props, filter), after))
-Says Draws word before Close after = (word ≡ codes "close") × (before ≡ after)
-Says Draws word before (Walk room) after = (word ≡ codes "walk") × (roomOf before ≡ Some (room, after))
-Says Draws word before Report after = (word ≡ codes "report") × (before ≡ after)
+Says draws word before Close after = (word ≡ codes "close") × (before ≡ after)
+Says draws word before (Walk room) after = (word ≡ codes "walk") × (roomOf before ≡ Some (room, after))
+Says draws word before Report after = (word ≡ codes "report") × (before ≡ after)
 
 abbrev pub kindAfter : Option Line → Option Line → Read Kind
 kindAfter (Some rest) run = Some (kind.Fill, rest)
@@ -54,11 +72,11 @@ abbrev pub kindOf : Line → Read Kind
 kindOf words = kindAfter (following (codes "fill") words) (following (codes "run") words)
 
 -- the same of whatever a line can say
-abbrev pub SaysEntry : {D : Type 0} → (List ℕ → Line → Result D Refusal → Line → Type 0) → List ℕ → Line → Entry D → Line → Type 0
-SaysEntry Draws word before (entry.Kind k) after = (word ≡ codes "kind") × (kindOf before ≡ Some (k, after))
-SaysEntry Draws word before (entry.Strip strip) after = (word ≡ codes "strip") × (stripOf before ≡ Some (strip, after))
-SaysEntry Draws word before (entry.Places places) after = (word ≡ codes "places") × (countOf before ≡ Some (places, after))
-SaysEntry Draws word before (entry.Call call) after = Says Draws word before call after
+abbrev pub SaysEntry : {D : Type 0} → Draws D → List ℕ → Line → Entry D → Line → Type 0
+SaysEntry draws word before (entry.Kind k) after = (word ≡ codes "kind") × (kindOf before ≡ Some (k, after))
+SaysEntry draws word before (entry.Strip strip) after = (word ≡ codes "strip") × (stripOf before ≡ Some (strip, after))
+SaysEntry draws word before (entry.Places places) after = (word ≡ codes "places") × (countOf before ≡ Some (places, after))
+SaysEntry draws word before (entry.Call call) after = Says draws word before call after
 
 -- a line without a word, or whose first word begins with #, is passed over
 abbrev pub PassedOver : Line → Type 0
@@ -66,6 +84,6 @@ PassedOver [] = Unit {0}
 PassedOver (word ∷ words) = getD word 0 0 ≡ 35
 
 -- all words of the line together say the entry
-abbrev pub SaysAll : {D : Type 0} → (List ℕ → Line → Result D Refusal → Line → Type 0) → Line → Entry D → Type 0
-SaysAll Draws [] entry = ⊥
-SaysAll Draws (word ∷ words) entry = (getD word 0 0 ≡ 35 → ⊥) × SaysEntry Draws word words entry []
+abbrev pub SaysAll : {D : Type 0} → Draws D → Line → Entry D → Type 0
+SaysAll draws [] entry = ⊥
+SaysAll draws (word ∷ words) entry = (getD word 0 0 ≡ 35 → ⊥) × SaysEntry draws word words entry []

@@ -1,20 +1,11 @@
 // The kinds of draw, as a script writes them.
-ghost use mathlib.Core.Path.{_≡_};
-ghost use mathlib.Core.List.{List, [], _∷_};
+ghost use mathlib.Core.List.{List};
 ghost use Prim.Native.Nat.{ℕ};
-ghost use lib.Chars.{codes};
 ghost use Rattle.std.specs.Results.{Cases};
-ghost use Rattle.std.specs.declared.option.Option.{Option};
-ghost use Rattle.std.specs.declared.option.Option.the-variants.{Some};
 ghost use Rattle.std.specs.declared.result.Result.{Result};
-ghost use Rattle.std.specs.declared.result.Result.the-variants.{Ok};
-ghost use Rattle.geometry.specs.declared.rect.RectU16.{RectU16};
-ghost use Rattle.refusal.specs.Refusals.{Answers};
 ghost use Rattle.refusal.specs.declared.Refusal.{Refusal};
-ghost use Rattle.draws.specs.Fits.{fits};
-ghost use Rattle.draws.specs.declared.blend.BlendMode.{BlendMode};
-ghost use Rattle.draws.specs.declared.run.Run.{Run};
-ghost use Rattle.script.specs.Parts.{left, Reads, rectOf, modeOf, fillOf, runOf};
+ghost use Rattle.script.specs.Calls.{FillWords, RunWords};
+ghost use Rattle.script.specs.Parts.{left, Reads, rectOf, modeOf};
 use crate::fault::Reason;
 use crate::words::Words;
 use draws::blend::BlendMode;
@@ -67,7 +58,7 @@ pub fn read_mode(words: &mut Words<'_>) -> Result<Option<BlendMode>, Reason>
 }
 
 pub impl DrawLine for Fill as FillDrawLine {
-    ghost Written = { λ word before draw after. (word ≡ codes "fill") × ((rect : RectU16) × (mode : Option BlendMode) × (fillOf before ≡ Some ((rect, mode), after)) × Answers ((fits rect, 1) ∷ []) draw (λ f. (f .rect ≡ rect) × (f .«blend_mode» ≡ mode)) (Unit {0})) };
+    ghost Written = { λ word before draw after. FillWords word before draw after };
 
     fn blank() -> Fill {
         Fill::new(RectU16::ZERO, None).unwrap()
@@ -84,7 +75,7 @@ pub impl DrawLine for Fill as FillDrawLine {
 }
 
 pub impl DrawLine for Run as RunDrawLine {
-    ghost Written = { λ word before draw after. (word ≡ codes "run") × ((run : Run) × (runOf before ≡ Some (run, after)) × (draw ≡ Ok run)) };
+    ghost Written = { λ word before draw after. RunWords word before draw after };
 
     fn blank() -> Run {
         Run { start: 0, end: 0 }
