@@ -107,7 +107,7 @@ fn read_parts<D: DrawLine>(word: &str, words: &mut Words<'_>) -> Result<Entry<D>
 
 // The words of a line that says something: not of one without a word, nor of a comment.
 pub fn words_of(bytes: &[u8]) -> Result<Option<(&str, Words<'_>)>, Reason>
-    ensures { λ r. ⌜ Cases r (λ line. BySome line (PassedOver (wordsOf (now (bytes .entry)))) (λ p. ((wordsOf (now (bytes .entry))) ≡ now (p .0) ∷ left (p .1)) × (getD (now (p .0)) 0 0 ≡ 35 → ⊥))) (λ _. Utf8 (now (bytes .entry)) → ⊥) ⌝ }
+    ensures { λ r. ⌜ Cases r (λ line. Utf8 (now (bytes .entry)) × BySome line (PassedOver (wordsOf (now (bytes .entry)))) (λ p. ((wordsOf (now (bytes .entry))) ≡ now (p .0) ∷ left (p .1)) × (getD (now (p .0)) 0 0 ≡ 35 → ⊥))) (λ _. Utf8 (now (bytes .entry)) → ⊥) ⌝ }
 {
     let Ok(text) = std::str::from_utf8(bytes) else {
         return Err(Reason::NotText);
@@ -124,7 +124,7 @@ pub fn words_of(bytes: &[u8]) -> Result<Option<(&str, Words<'_>)>, Reason>
 
 // What a line says; nothing where it is passed over.
 pub fn read_entry<D: DrawLine>(bytes: &[u8]) -> Result<Option<Entry<D>>, Reason>
-    ensures { λ r. ⌜ Cases r (λ line. BySome line (PassedOver (wordsOf (now (bytes .entry)))) (λ entry. SaysAll Written (wordsOf (now (bytes .entry))) entry)) (λ _. Unit {0}) ⌝ }
+    ensures { λ r. ⌜ Cases r (λ line. Utf8 (now (bytes .entry)) × BySome line (PassedOver (wordsOf (now (bytes .entry)))) (λ entry. SaysAll Written (wordsOf (now (bytes .entry))) entry)) (λ _. Unit {0}) ⌝ }
 {
     let Some((word, mut words)) = words_of(bytes)? else {
         return Ok(None);

@@ -18,6 +18,7 @@ pub struct TextLine<'a> {
 pub struct Lines<'a> {
     rest: &'a [u8],
     taken: u64,
+    ghost fits: { taken + length (rest .now) < 2 ^ 64 },
 }
 
 impl<'a> Lines<'a> {
@@ -74,7 +75,7 @@ pub impl<'a> Iterator for Lines<'a> as LinesIterator {
 
     ghost left = { λ s. length (s .rest .now) };
 
-    ghost steps = { λ s r t. Cases r (linesOf (s .rest .now) ≡ []) (λ line. (linesOf (s .rest .now) ≡ line .bytes .now ∷ linesOf (t .rest .now)) × (line .number ≡ t .taken) × (s .taken + 1 < 2 ^ 64 → t .taken ≡ s .taken + 1)) };
+    ghost steps = { λ s r t. Cases r (linesOf (s .rest .now) ≡ []) (λ line. (linesOf (s .rest .now) ≡ line .bytes .now ∷ linesOf (t .rest .now)) × (line .number ≡ t .taken) × (t .taken ≡ s .taken + 1)) };
 
     fn next(&mut self) -> Option<TextLine<'a>> {
         if self.rest.is_empty() {
@@ -82,7 +83,7 @@ pub impl<'a> Iterator for Lines<'a> as LinesIterator {
         }
         let (bytes, rest) = cut_line(self.rest);
         self.rest = rest;
-        self.taken = self.taken.saturating_add(1);
+        self.taken += 1;
         Some(TextLine {
             number: self.taken,
             bytes,
