@@ -4,13 +4,19 @@ use mathlib.Core.Bool.{true}
 use mathlib.Core.Logic.{_⊎_}
 use mathlib.Core.List.{List, [], _∷_}
 use Prim.Native.Nat.{ℕ, _+_}
+use lib.Chars.{codes}
 use Rattle.std.specs.Text.{Utf8}
+use Rattle.std.specs.declared.option.Option.{Option}
+use Rattle.std.specs.declared.option.Option.the-variants.{Some, None}
+use Rattle.script.specs.declared.draw_line.Kind.{Kind}
+use Rattle.script.specs.declared.draw_line.Kind.the-variants as kind
 use Rattle.script.specs.declared.entry.Entry.{Entry}
 use Rattle.script.specs.declared.fault.Unread.{Unread}
 use Rattle.script.specs.declared.fault.Unread.the-variants.{Faulty, NoMemory}
 use Rattle.script.specs.declared.script.Script.{Script}
 use Rattle.script.specs.declared.script.Script.the-variants.{Fills, Runs}
-use Rattle.script.specs.Calls.{Draws, FillWords, RunWords, PassedOver, SaysAll}
+use Rattle.script.specs.Calls.{Draws, FillWords, RunWords, kindOf, PassedOver, SaysAll}
+use Rattle.script.specs.Parts.{Line, Read, following}
 use Rattle.script.specs.Sheets.{View, viewOf, start, allowed, added}
 use Rattle.script.specs.Words.{wordsOf}
 
@@ -40,10 +46,28 @@ abbrev pub Stopped : {D : Type 0} → Draws D → List (List ℕ) → Unread →
 Stopped draws lines (Faulty fault) = FirstFault draws start 0 lines (fault .line)
 Stopped draws lines NoMemory = Unit {0}
 
--- the lines lead to the sheet
+-- the kind of a sheet whose first line with a meaning has these words
+abbrev pub kindOr : Read Kind → Kind
+kindOr None = kind.Fill
+kindOr (Some p) = p .0
+
+abbrev pub headKindAfter : Option Line → Kind
+headKindAfter None = kind.Fill
+headKindAfter (Some rest) = kindOr (kindOf rest)
+
+abbrev pub headKind : Line → Kind
+headKind words = headKindAfter (following (codes "kind") words)
+
+-- the first line that is not passed over gives the kind, or else it is that of fills
+abbrev pub GivesKind : List (List ℕ) → Kind → Type 0
+GivesKind [] k = k ≡ kind.Fill
+GivesKind (line ∷ lines) k = (PassedOver (wordsOf line) × GivesKind lines k) ⊎ (Utf8 line → k ≡ headKind (wordsOf line))
+
+-- the lines give the kind of the sheet, and lead to it
 abbrev pub Whole : List (List ℕ) → Script → Type 0
-Whole lines (Fills sheet) = Leads FillWords start 0 lines (viewOf sheet)
-Whole lines (Runs sheet) = Leads RunWords start 0 lines (viewOf sheet)
+Whole lines (Fills sheet) = GivesKind lines kind.Fill × Leads FillWords start 0 lines (viewOf sheet)
+Whole lines (Runs sheet) = GivesKind lines kind.Run × Leads RunWords start 0 lines (viewOf sheet)
 
 abbrev pub Failed : List (List ℕ) → Unread → Type 0
-Failed lines unread = Stopped FillWords lines unread ⊎ Stopped RunWords lines unread
+Failed lines unread =
+    (GivesKind lines kind.Fill × Stopped FillWords lines unread) ⊎ (GivesKind lines kind.Run × Stopped RunWords lines unread)

@@ -6,7 +6,7 @@ ghost use Rattle.std.specs.Results.{Cases};
 ghost use Rattle.std.specs.Text.{Utf8};
 ghost use Rattle.script.specs.Calls.{PassedOver, SaysAll};
 ghost use Rattle.script.specs.Lines.{linesOf};
-ghost use Rattle.script.specs.Readings.{LineLeads, Leads, FaultOf, Stopped, Whole, Failed};
+ghost use Rattle.script.specs.Readings.{LineLeads, Leads, FaultOf, Stopped, headKind, GivesKind, Whole, Failed};
 ghost use Rattle.script.specs.Sheets.{viewOf, start, allowed};
 ghost use Rattle.script.specs.Words.{wordsOf};
 use crate::draw_line::DrawLine;
@@ -36,13 +36,28 @@ pub enum Script {
     Runs(Sheet<Run>),
 }
 
-// The kind that the first line which is not passed over gives; fills where it gives none.
-fn sheet_kind(bytes: &[u8]) -> Kind {
+// The kind that a sheet has by its first line that is not passed over; nothing where this one is.
+fn line_kind(bytes: &[u8]) -> Option<Kind>
+    ensures { λ r. ⌜ BySome r (PassedOver (wordsOf (now (bytes .entry)))) (λ kind. Utf8 (now (bytes .entry)) → kind ≡ headKind (wordsOf (now (bytes .entry)))) ⌝ }
+{
+    let Ok(line) = words_of(bytes) else {
+        return Some(Kind::Fill);
+    };
+    let Some((word, mut words)) = line else {
+        return None;
+    };
+    if word != "kind" {
+        return Some(Kind::Fill);
+    }
+    Some(read_kind(&mut words).unwrap_or(Kind::Fill))
+}
+
+fn sheet_kind(bytes: &[u8]) -> Kind
+    ensures { λ r. ⌜ GivesKind (linesOf (now (bytes .entry))) r ⌝ }
+{
     for line in Lines::new(bytes) {
-        match words_of(line.bytes) {
-            Ok(None) => {}
-            Ok(Some(("kind", mut words))) => return read_kind(&mut words).unwrap_or(Kind::Fill),
-            _ => return Kind::Fill,
+        if let Some(kind) = line_kind(line.bytes) {
+            return kind;
         }
     }
     Kind::Fill
