@@ -59,7 +59,9 @@ impl<D: Drop> Sheet<D> {
         }
         Ok(())
     }
+}
 
+impl<D> Sheet<D> {
     // How many of the lines draw.
     pub fn draw_lines(&self) -> usize
         ensures { λ r. ⌜ r ≡ drawLines (vec-items (now (self .entry) .lines)) ⌝ }

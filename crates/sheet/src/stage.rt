@@ -1,4 +1,14 @@
 // A recorder and the lists that its calls are made on.
+ghost use mathlib.Core.Path.{_≡_};
+ghost use Prim.Native.Nat.{ℕ, _+_, _*_, min};
+ghost use Rattle.std.specs.Of.Vec.{vec-items};
+ghost use Rattle.std.specs.Options.{valueOr};
+ghost use Rattle.std.specs.declared.option.Option.the-variants.{Some};
+ghost use Rattle.refusal.specs.Refusals.{Answers};
+ghost use Rattle.record.specs.Account.{closeQuestions};
+ghost use Rattle.record.specs.Recording.{recording, resetQuestions, afterReset, openQuestions, afterOpening, afterClosing, innermostKind, active};
+ghost use Rattle.script.specs.Sheets.{drawLines};
+ghost use Rattle.sheet.specs.declared.answer.Answer.the-variants.{Reset, Enter, Leave};
 use crate::answer::Answer;
 use crate::answer::AnswerDisplay;
 use crate::answer::Refused;
@@ -40,10 +50,12 @@ struct Stage<'a, D> {
 
 // How many places the draw list gets: as many as the script says, or one for each of its draw lines.
 // A recorder takes no more than MAX_DRAWS draws, so that further places are never read or written.
-fn draw_places<D>(sheet: &Sheet<D>) -> usize {
+fn draw_places<D>(sheet: &Sheet<D>) -> usize
+    ensures { λ r. ⌜ r ≡ min (valueOr (now (sheet .entry) .places) (drawLines (vec-items (now (sheet .entry) .lines)))) 1048576 ⌝ }
+{
     let places = match sheet.places {
         Some(places) => places as usize,
-        None => sheet.draw_lines,
+        None => sheet.draw_lines(),
     };
     places.min(MAX_DRAWS as usize)
 }
@@ -62,7 +74,9 @@ impl<'a, D: DrawLine> Stage<'a, D> {
         })
     }
 
-    fn reset(&mut self, width: u16, height: u16) -> Result<Answer, Refusal> {
+    fn reset(&mut self, width: u16, height: u16) -> Result<Answer, Refusal>
+        ensures { λ r. ⌜ Answers (resetQuestions width height) r (λ a. (a ≡ Reset ((recording (now (self .exit) .recorder)) .account .scene)) × ((recording (now (self .exit) .recorder)) ≡ afterReset width height)) (now (self .exit) .recorder ≡ now (self .entry) .recorder) ⌝ }
+    {
         self.recorder.reset(width, height)?;
         Ok(Answer::Reset(self.recorder.scene_size()))
     }
@@ -73,12 +87,16 @@ impl<'a, D: DrawLine> Stage<'a, D> {
         Ok(Answer::Draw(number))
     }
 
-    fn open(&mut self, props: LayerProps, filter: Option<FilterData>) -> Result<Answer, Refusal> {
+    fn open(&mut self, props: LayerProps, filter: Option<FilterData>) -> Result<Answer, Refusal>
+        ensures { λ r. ⌜ Answers (openQuestions props filter (recording (now (self .entry) .recorder))) r (λ a. (a ≡ Enter ((recording (now (self .entry) .recorder)) .account .layers)) × ((recording (now (self .exit) .recorder)) ≡ afterOpening props filter (recording (now (self .entry) .recorder)))) (now (self .exit) .recorder ≡ now (self .entry) .recorder) ⌝ }
+    {
         let layer = self.recorder.push_layer(props, filter)?;
         Ok(Answer::Enter(layer))
     }
 
-    fn close(&mut self) -> Result<Answer, Refusal> {
+    fn close(&mut self) -> Result<Answer, Refusal>
+        ensures { λ r. ⌜ Answers (closeQuestions ((recording (now (self .entry) .recorder)) .account)) r (λ a. (layer : ℕ) × (active (recording (now (self .entry) .recorder)) ≡ Some layer) × (a ≡ Leave layer (innermostKind ((recording (now (self .entry) .recorder)) .account .opened))) × ((recording (now (self .exit) .recorder)) ≡ afterClosing (recording (now (self .entry) .recorder)))) (now (self .exit) .recorder ≡ now (self .entry) .recorder) ⌝ }
+    {
         let Some(layer) = self.recorder.active_layer() else {
             return Err(Refusal::NoLayerOpen);
         };
@@ -87,7 +105,9 @@ impl<'a, D: DrawLine> Stage<'a, D> {
     }
 
     // A walk lists each draw once and each layer twice, so that further places stay as they are.
-    fn walk_places(&self, room: Option<u32>) -> usize {
+    fn walk_places(&self, room: Option<u32>) -> usize
+        ensures { λ r. ⌜ r ≡ min ((recording (now (self .entry) .recorder)) .account .drawn + 2 * (recording (now (self .entry) .recorder)) .account .layers) (valueOr room ((recording (now (self .entry) .recorder)) .account .drawn + 2 * (recording (now (self .entry) .recorder)) .account .layers)) ⌝ }
+    {
         let entries = self.recorder.draw_count() as usize + 2 * self.recorder.layer_count() as usize;
         match room {
             Some(room) => entries.min(room as usize),
