@@ -1,14 +1,15 @@
 // A recorder and the lists that its calls are made on.
 ghost use mathlib.Core.Path.{_≡_};
 ghost use Prim.Native.Nat.{ℕ, _+_, _*_, min};
-ghost use Rattle.std.specs.Of.Vec.{vec-items};
+ghost use Rattle.std.specs.Of.Vec.{vec-items, vec-len};
 ghost use Rattle.std.specs.Options.{valueOr};
 ghost use Rattle.std.specs.declared.option.Option.the-variants.{Some};
 ghost use Rattle.refusal.specs.Refusals.{Answers};
 ghost use Rattle.record.specs.Account.{closeQuestions};
-ghost use Rattle.record.specs.Recording.{recording, resetQuestions, afterReset, openQuestions, afterOpening, afterClosing, innermostKind, active};
+ghost use Rattle.record.specs.Pushed.{Pushed};
+ghost use Rattle.record.specs.Recording.{recording, drawQuestions, resetQuestions, afterReset, openQuestions, afterOpening, afterClosing, innermostKind, active};
 ghost use Rattle.script.specs.Sheets.{drawLines};
-ghost use Rattle.sheet.specs.declared.answer.Answer.the-variants.{Reset, Enter, Leave};
+ghost use Rattle.sheet.specs.declared.answer.Answer.the-variants.{Reset, Draw, Enter, Leave};
 use crate::answer::Answer;
 use crate::answer::AnswerDisplay;
 use crate::answer::Refused;
@@ -81,8 +82,10 @@ impl<'a, D: DrawLine> Stage<'a, D> {
         Ok(Answer::Reset(self.recorder.scene_size()))
     }
 
-    fn draw(&mut self, draw: Result<D, Refusal>, line: u32) -> Result<Answer, Refusal> {
-        let tagged = Tagged { draw: draw?, line };
+    fn draw(&mut self, draw: D, line: u32) -> Result<Answer, Refusal>
+        ensures { λ r. ⌜ Answers (drawQuestions (vec-len (now (self .entry) .draws)) (recording (now (self .entry) .recorder))) r (λ a. (n : ℕ) × (a ≡ Draw n) × Pushed n (record { draw = draw; line = line }) (D·Drawable .boxOf draw (now (self .entry) .strips .now)) (D·Drawable .modeOf draw) (recording (now (self .entry) .recorder)) (recording (now (self .exit) .recorder)) (vec-items (now (self .entry) .draws)) (vec-items (now (self .exit) .draws))) (now (self .exit) .recorder ≡ now (self .entry) .recorder) ⌝ }
+    {
+        let tagged = Tagged { draw, line };
         let number = self.recorder.push_draw(tagged, self.draws.as_mut_slice(), self.strips)?;
         Ok(Answer::Draw(number))
     }
@@ -145,7 +148,8 @@ impl<'a, D: DrawLine> Stage<'a, D> {
             Call::Reset { width, height } => {
                 print_answer(out, number, self.reset(width, height))?;
             }
-            Call::Draw(draw) => print_answer(out, number, self.draw(draw, number))?,
+            Call::Draw(Ok(draw)) => print_answer(out, number, self.draw(draw, number))?,
+            Call::Draw(Err(refusal)) => print_answer(out, number, Err(refusal))?,
             Call::Open { props, filter } => print_answer(out, number, self.open(props, filter))?,
             Call::Close => print_answer(out, number, self.close())?,
             Call::Walk { room } => self.print_walk(out, number, room)?,
