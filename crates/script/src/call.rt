@@ -1,4 +1,6 @@
 // The calls of a script.
+ghost use mathlib.Core.Path.{_≡_};
+ghost use Rattle.script.specs.Calls.{isDraw};
 use filter::data::FilterData;
 use filter::data::FilterDataDebug;
 use record::props::LayerProps;
@@ -24,6 +26,14 @@ pub enum Call<D> {
         room: Option<u32>,
     },
     Report,
+}
+
+impl<D> Call<D> {
+    pub fn is_draw(&self) -> bool
+        ensures { λ r. ⌜ r ≡ isDraw (now (self .entry)) ⌝ }
+    {
+        matches!(self, Call::Draw(_))
+    }
 }
 
 // A call and the number of its line, counted from 1.

@@ -1,4 +1,19 @@
 // What one line of a script says.
+ghost use mathlib.Core.Path.{_≡_};
+ghost use mathlib.Core.List.{_∷_};
+ghost use Prim.Native.Nat.{ℕ};
+ghost use lib.ListN.{getD};
+ghost use Rattle.std.specs.Options.{Cases as BySome};
+ghost use Rattle.std.specs.Text.{Utf8};
+ghost use Rattle.std.specs.Results.{Cases};
+ghost use Rattle.std.specs.declared.option.Option.{Option};
+ghost use Rattle.std.specs.declared.option.Option.the-variants.{Some, None};
+ghost use Rattle.filter.specs.declared.data.FilterData.{FilterData};
+ghost use Rattle.record.specs.declared.props.LayerProps.{LayerProps};
+ghost use Rattle.script.specs.declared.call.Call.the-variants.{Reset, Open};
+ghost use Rattle.script.specs.Calls.{sizeOf, openOf, Says, kindOf, SaysEntry, PassedOver, SaysAll};
+ghost use Rattle.script.specs.Parts.{left, Reads, stripOf, roomOf};
+ghost use Rattle.script.specs.Words.{wordsOf};
 use crate::call::Call;
 use crate::call::CallClone;
 use crate::draw_line::DrawLine;
@@ -17,41 +32,55 @@ pub enum Entry<D> {
     Call(Call<D>),
 }
 
-pub fn read_kind(words: &mut Words<'_>) -> Result<Kind, Reason> {
-    match words.next_word() {
-        Some("fill") => Ok(Kind::Fill),
-        Some("run") => Ok(Kind::Run),
-        _ => Err(Reason::UnknownKind),
+pub fn read_kind(words: &mut Words<'_>) -> Result<Kind, Reason>
+    ensures { λ r. ⌜ Reads kindOf (left (now (words .entry))) r (left (now (words .exit))) ⌝ }
+{
+    if words.take("fill") {
+        return Ok(Kind::Fill);
     }
+    if words.take("run") {
+        return Ok(Kind::Run);
+    }
+    Err(Reason::UnknownKind)
 }
 
-fn read_strip(words: &mut Words<'_>) -> Result<Strip, Reason> {
+fn read_strip(words: &mut Words<'_>) -> Result<Strip, Reason>
+    ensures { λ r. ⌜ Reads stripOf (left (now (words .entry))) r (left (now (words .exit))) ⌝ }
+{
     let x = words.number16()?;
     let y = words.number16()?;
     let width = words.number16()?;
     Ok(Strip { x, y, width })
 }
 
-fn read_room(words: &mut Words<'_>) -> Result<Option<u32>, Reason> {
+fn read_room(words: &mut Words<'_>) -> Result<Option<u32>, Reason>
+    ensures { λ r. ⌜ Reads roomOf (left (now (words .entry))) r (left (now (words .exit))) ⌝ }
+{
     if !words.take("room") {
         return Ok(None);
     }
     Ok(Some(words.number32()?))
 }
 
-fn read_reset<D>(words: &mut Words<'_>) -> Result<Call<D>, Reason> {
+fn read_reset<D>(words: &mut Words<'_>) -> Result<Call<D>, Reason>
+    ensures { λ r. ⌜ Cases r (λ call. (width : ℕ) × (height : ℕ) × (call ≡ Reset width height) × (sizeOf (left (now (words .entry))) ≡ Some ((width, height), (left (now (words .exit)))))) (λ _. sizeOf (left (now (words .entry))) ≡ None) ⌝ }
+{
     let width = words.number16()?;
     let height = words.number16()?;
     Ok(Call::Reset { width, height })
 }
 
-fn read_open<D>(words: &mut Words<'_>) -> Result<Call<D>, Reason> {
+fn read_open<D>(words: &mut Words<'_>) -> Result<Call<D>, Reason>
+    ensures { λ r. ⌜ Cases r (λ call. (props : LayerProps) × (filter : Option FilterData) × (call ≡ Open props filter) × (openOf (props .opacity) (left (now (words .entry))) ≡ Some ((props, filter), (left (now (words .exit)))))) (λ _. Unit {0}) ⌝ }
+{
     let props = read_props(words)?;
     let filter = read_filter(words)?;
     Ok(Call::Open { props, filter })
 }
 
-fn read_call<D: DrawLine>(word: &str, words: &mut Words<'_>) -> Result<Call<D>, Reason> {
+fn read_call<D: DrawLine>(word: &str, words: &mut Words<'_>) -> Result<Call<D>, Reason>
+    ensures { λ r. ⌜ Cases r (λ call. Says Written (now (word .entry)) (left (now (words .entry))) call (left (now (words .exit)))) (λ _. Unit {0}) ⌝ }
+{
     match word {
         "reset" => read_reset(words),
         "fill" | "run" => Ok(Call::Draw(D::read(word, words)?)),
@@ -65,7 +94,9 @@ fn read_call<D: DrawLine>(word: &str, words: &mut Words<'_>) -> Result<Call<D>, 
     }
 }
 
-fn read_parts<D: DrawLine>(word: &str, words: &mut Words<'_>) -> Result<Entry<D>, Reason> {
+fn read_parts<D: DrawLine>(word: &str, words: &mut Words<'_>) -> Result<Entry<D>, Reason>
+    ensures { λ r. ⌜ Cases r (λ entry. SaysEntry Written (now (word .entry)) (left (now (words .entry))) entry (left (now (words .exit)))) (λ _. Unit {0}) ⌝ }
+{
     match word {
         "kind" => Ok(Entry::Kind(read_kind(words)?)),
         "strip" => Ok(Entry::Strip(read_strip(words)?)),
@@ -75,19 +106,26 @@ fn read_parts<D: DrawLine>(word: &str, words: &mut Words<'_>) -> Result<Entry<D>
 }
 
 // The words of a line that says something: not of one without a word, nor of a comment.
-pub fn words_of(bytes: &[u8]) -> Result<Option<(&str, Words<'_>)>, Reason> {
+pub fn words_of(bytes: &[u8]) -> Result<Option<(&str, Words<'_>)>, Reason>
+    ensures { λ r. ⌜ Cases r (λ line. Utf8 (now (bytes .entry)) × BySome line (PassedOver (wordsOf (now (bytes .entry)))) (λ p. ((wordsOf (now (bytes .entry))) ≡ now (p .0) ∷ left (p .1)) × (getD (now (p .0)) 0 0 ≡ 35 → ⊥))) (λ _. Utf8 (now (bytes .entry)) → ⊥) ⌝ }
+{
     let Ok(text) = std::str::from_utf8(bytes) else {
         return Err(Reason::NotText);
     };
     let mut words = Words::new(text);
-    match words.next_word() {
-        Some(word) if !word.starts_with('#') => Ok(Some((word, words))),
-        _ => Ok(None),
+    let Some(word) = words.next_word() else {
+        return Ok(None);
+    };
+    if word.starts_with('#') {
+        return Ok(None);
     }
+    Ok(Some((word, words)))
 }
 
 // What a line says; nothing where it is passed over.
-pub fn read_entry<D: DrawLine>(bytes: &[u8]) -> Result<Option<Entry<D>>, Reason> {
+pub fn read_entry<D: DrawLine>(bytes: &[u8]) -> Result<Option<Entry<D>>, Reason>
+    ensures { λ r. ⌜ Cases r (λ line. Utf8 (now (bytes .entry)) × BySome line (PassedOver (wordsOf (now (bytes .entry)))) (λ entry. SaysAll Written (wordsOf (now (bytes .entry))) entry)) (λ _. Unit {0}) ⌝ }
+{
     let Some((word, mut words)) = words_of(bytes)? else {
         return Ok(None);
     };

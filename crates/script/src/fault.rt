@@ -1,4 +1,6 @@
 // Why a script cannot be run.
+ghost use mathlib.Core.Path.{_≡_};
+ghost use Rattle.script.specs.declared.fault.Unread.the-variants.{NoMemory};
 use std::alloc::AllocError;
 use std::alloc::Refused;
 use std::fmt;
@@ -71,12 +73,16 @@ pub enum Unread {
 }
 
 pub impl From<AllocError> for Unread as UnreadFromAlloc {
+    ghost converts = { λ _ r. r ≡ NoMemory };
+
     fn from(_error: AllocError) -> Unread {
         Unread::NoMemory
     }
 }
 
 pub impl<T: Drop> From<Refused<T>> for Unread as UnreadFromRefused {
+    ghost converts = { λ _ r. r ≡ NoMemory };
+
     fn from(_error: Refused<T>) -> Unread {
         Unread::NoMemory
     }

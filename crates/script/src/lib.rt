@@ -8,4 +8,6 @@ mod numbers;
 mod open;
 pub mod script;
 pub mod sheet;
+#[cfg(test)]
+mod tests;
 mod words;

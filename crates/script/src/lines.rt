@@ -1,7 +1,10 @@
 // The lines of a script, as bytes.
 ghost use mathlib.Core.Path.{_≡_};
-ghost use Prim.Native.Nat.{ℕ, _≤_, _<_};
+ghost use mathlib.Core.List.{[], _∷_};
+ghost use Prim.Native.Nat.{ℕ, _+_, _^_, _≤_, _<_};
 ghost use lib.ListN.{length, getD};
+ghost use Rattle.std.specs.Options.{Cases};
+ghost use Rattle.script.specs.Lines.{withoutReturn, linesOf};
 
 // A line without the LF or CR LF that ends it, and its number, counted from 1.
 #[derive(Clone, Copy)]
@@ -15,10 +18,13 @@ pub struct TextLine<'a> {
 pub struct Lines<'a> {
     rest: &'a [u8],
     taken: u64,
+    ghost fits: { taken + length (rest .now) < 2 ^ 64 },
 }
 
 impl<'a> Lines<'a> {
-    pub fn new(bytes: &'a [u8]) -> Lines<'a> {
+    pub fn new(bytes: &'a [u8]) -> Lines<'a>
+        ensures { λ r. ⌜ (r .rest .now ≡ now (bytes .entry)) × (r .taken ≡ 0) ⌝ }
+    {
         Lines {
             rest: bytes,
             taken: 0,
@@ -41,10 +47,24 @@ fn line_len(bytes: &[u8]) -> usize
 }
 
 // A CR belongs to the line's end only where an LF follows it.
-fn without_return(line: &[u8]) -> &[u8] {
+fn without_return(line: &[u8]) -> &[u8]
+    ensures { λ r. ⌜ now r ≡ withoutReturn (now (line .entry)) ⌝ }
+{
     match line {
         [front @ .., b'\r'] => front,
         _ => line,
+    }
+}
+
+// The first line of what is left of a script, and what follows it.
+fn cut_line(bytes: &[u8]) -> (&[u8], &[u8])
+    ensures lines { λ r. ⌜ (0 < length (now (bytes .entry)) → linesOf (now (bytes .entry)) ≡ now (r .0) ∷ linesOf (now (r .1))) ⌝ }
+    ensures shorter { λ r. ⌜ (0 < length (now (bytes .entry)) → length (now (r .1)) < length (now (bytes .entry))) ⌝ }
+{
+    let (line, after) = bytes.split_at(line_len(bytes));
+    match after.split_first() {
+        Some((_, rest)) => (without_return(line), rest),
+        None => (line, after),
     }
 }
 
@@ -55,10 +75,13 @@ pub impl<'a> Iterator for Lines<'a> as LinesIterator {
 
     ghost left = { λ s. length (s .rest .now) };
 
+    ghost steps = { λ s r t. Cases r (linesOf (s .rest .now) ≡ []) (λ line. (linesOf (s .rest .now) ≡ line .bytes .now ∷ linesOf (t .rest .now)) × (line .number ≡ t .taken) × (t .taken ≡ s .taken + 1)) };
+
     fn next(&mut self) -> Option<TextLine<'a>> {
         if self.rest.is_empty() {
             return None;
         }
+<<<<<<< HEAD
         let (line, after) = self.rest.split_at(line_len(self.rest));
         self.taken = self.taken.saturating_add(1);
         let number = self.taken;
@@ -78,5 +101,14 @@ pub impl<'a> Iterator for Lines<'a> as LinesIterator {
                 })
             }
         }
+=======
+        let (bytes, rest) = cut_line(self.rest);
+        self.rest = rest;
+        self.taken += 1;
+        Some(TextLine {
+            number: self.taken,
+            bytes,
+        })
+>>>>>>> edc100ad59e232c75314ccdbf722109fd25bef08
     }
 }

@@ -1,4 +1,5 @@
 // The opening of a layer, as a script writes it. Its parts stand in one order, and each may be left out.
+ghost use Rattle.script.specs.Parts.{left, Reads, ReadsWith, opacityOf, maskOf, pathOf, clipOf, propsOf, paddingOf, filterOf};
 use crate::draw_line::read_mode;
 use crate::draw_line::read_rect;
 use crate::fault::Reason;
@@ -11,7 +12,9 @@ use record::props::LayerProps;
 use record::props::StripRange;
 
 // Full opacity where none is written.
-fn read_opacity(words: &mut Words<'_>) -> Result<f32, Reason> {
+fn read_opacity(words: &mut Words<'_>) -> Result<f32, Reason>
+    ensures { λ r. ⌜ ReadsWith opacityOf (λ o. o) (left (now (words .entry))) r (left (now (words .exit))) ⌝ }
+{
     if !words.take("opacity") {
         return Ok(1.0);
     }
@@ -24,7 +27,9 @@ fn read_opacity(words: &mut Words<'_>) -> Result<f32, Reason> {
     }
 }
 
-fn read_mask(words: &mut Words<'_>) -> Result<Option<u32>, Reason> {
+fn read_mask(words: &mut Words<'_>) -> Result<Option<u32>, Reason>
+    ensures { λ r. ⌜ Reads maskOf (left (now (words .entry))) r (left (now (words .exit))) ⌝ }
+{
     if !words.take("mask") {
         return Ok(None);
     }
@@ -32,7 +37,9 @@ fn read_mask(words: &mut Words<'_>) -> Result<Option<u32>, Reason> {
 }
 
 // The strips of a clip path and the list that holds them; none of list 0 where none is written.
-fn read_path(words: &mut Words<'_>) -> Result<(StripRange, u8), Reason> {
+fn read_path(words: &mut Words<'_>) -> Result<(StripRange, u8), Reason>
+    ensures { λ r. ⌜ Reads pathOf (left (now (words .entry))) r (left (now (words .exit))) ⌝ }
+{
     if !words.take("path") {
         return Ok((StripRange { start: 0, end: 0 }, 0));
     }
@@ -42,7 +49,9 @@ fn read_path(words: &mut Words<'_>) -> Result<(StripRange, u8), Reason> {
     Ok((StripRange { start, end }, thread_idx))
 }
 
-fn read_clip(words: &mut Words<'_>) -> Result<Option<LayerClip>, Reason> {
+fn read_clip(words: &mut Words<'_>) -> Result<Option<LayerClip>, Reason>
+    ensures { λ r. ⌜ Reads clipOf (left (now (words .entry))) r (left (now (words .exit))) ⌝ }
+{
     if !words.take("clip") {
         return Ok(None);
     }
@@ -55,7 +64,9 @@ fn read_clip(words: &mut Words<'_>) -> Result<Option<LayerClip>, Reason> {
     }))
 }
 
-pub fn read_props(words: &mut Words<'_>) -> Result<LayerProps, Reason> {
+pub fn read_props(words: &mut Words<'_>) -> Result<LayerProps, Reason>
+    ensures { λ r. ⌜ ReadsWith propsOf (λ props. props .opacity) (left (now (words .entry))) r (left (now (words .exit))) ⌝ }
+{
     let blend_mode = read_mode(words)?.unwrap_or(BlendMode::DEFAULT);
     let opacity = read_opacity(words)?;
     let mask = read_mask(words)?;
@@ -68,7 +79,9 @@ pub fn read_props(words: &mut Words<'_>) -> Result<LayerProps, Reason> {
     })
 }
 
-fn read_padding(words: &mut Words<'_>) -> Result<PaddingU16, Reason> {
+fn read_padding(words: &mut Words<'_>) -> Result<PaddingU16, Reason>
+    ensures { λ r. ⌜ Reads paddingOf (left (now (words .entry))) r (left (now (words .exit))) ⌝ }
+{
     let left = words.number16()?;
     let top = words.number16()?;
     let right = words.number16()?;
@@ -76,7 +89,9 @@ fn read_padding(words: &mut Words<'_>) -> Result<PaddingU16, Reason> {
     Ok(PaddingU16::new(left, top, right, bottom))
 }
 
-pub fn read_filter(words: &mut Words<'_>) -> Result<Option<FilterData>, Reason> {
+pub fn read_filter(words: &mut Words<'_>) -> Result<Option<FilterData>, Reason>
+    ensures { λ r. ⌜ Reads filterOf (left (now (words .entry))) r (left (now (words .exit))) ⌝ }
+{
     if !words.take("filter") {
         return Ok(None);
     }

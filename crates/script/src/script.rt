@@ -1,4 +1,14 @@
 // A script as a whole.
+ghost use mathlib.Core.Path.{_≡_};
+ghost use mathlib.Core.Bool.{true};
+ghost use Rattle.std.specs.Options.{Cases as BySome};
+ghost use Rattle.std.specs.Results.{Cases};
+ghost use Rattle.std.specs.Text.{Utf8};
+ghost use Rattle.script.specs.Calls.{PassedOver, SaysAll};
+ghost use Rattle.script.specs.Lines.{linesOf};
+ghost use Rattle.script.specs.Readings.{LineLeads, Leads, FaultOf, Stopped, headKind, GivesKind, Whole, Failed};
+ghost use Rattle.script.specs.Sheets.{viewOf, start, allowed};
+ghost use Rattle.script.specs.Words.{wordsOf};
 use crate::draw_line::DrawLine;
 use crate::draw_line::FillDrawLine;
 use crate::draw_line::Kind;
@@ -26,13 +36,28 @@ pub enum Script {
     Runs(Sheet<Run>),
 }
 
-// The kind that the first line which is not passed over gives; fills where it gives none.
-fn sheet_kind(bytes: &[u8]) -> Kind {
+// The kind that a sheet has by its first line that is not passed over; nothing where this one is.
+fn line_kind(bytes: &[u8]) -> Option<Kind>
+    ensures { λ r. ⌜ BySome r (PassedOver (wordsOf (now (bytes .entry)))) (λ kind. Utf8 (now (bytes .entry)) → kind ≡ headKind (wordsOf (now (bytes .entry)))) ⌝ }
+{
+    let Ok(line) = words_of(bytes) else {
+        return Some(Kind::Fill);
+    };
+    let Some((word, mut words)) = line else {
+        return None;
+    };
+    if word != "kind" {
+        return Some(Kind::Fill);
+    }
+    Some(read_kind(&mut words).unwrap_or(Kind::Fill))
+}
+
+fn sheet_kind(bytes: &[u8]) -> Kind
+    ensures { λ r. ⌜ GivesKind (linesOf (now (bytes .entry))) r ⌝ }
+{
     for line in Lines::new(bytes) {
-        match words_of(line.bytes) {
-            Ok(None) => {}
-            Ok(Some(("kind", mut words))) => return read_kind(&mut words).unwrap_or(Kind::Fill),
-            _ => return Kind::Fill,
+        if let Some(kind) = line_kind(line.bytes) {
+            return kind;
         }
     }
     Kind::Fill
@@ -42,7 +67,9 @@ fn sheet_kind(bytes: &[u8]) -> Kind {
 fn checked_entry<D: DrawLine>(
     sheet: &Sheet<D>,
     line: TextLine<'_>,
-) -> Result<Option<(u32, Entry<D>)>, Reason> {
+) -> Result<Option<(u32, Entry<D>)>, Reason>
+    ensures { λ r. ⌜ Cases r (λ said. Utf8 (line .entry .bytes .now) × BySome said (PassedOver (wordsOf (line .entry .bytes .now))) (λ p. (p .0 ≡ line .entry .number) × SaysAll Written (wordsOf (line .entry .bytes .now)) (p .1) × (allowed (viewOf (now (sheet .entry))) (p .1) ≡ true))) (λ _. Unit {0}) ⌝ }
+{
     let Some(entry) = read_entry(line.bytes)? else {
         return Ok(None);
     };
@@ -53,7 +80,9 @@ fn checked_entry<D: DrawLine>(
     }
 }
 
-fn read_line<D: DrawLine>(sheet: &mut Sheet<D>, line: TextLine<'_>) -> Result<(), Unread> {
+fn read_line<D: DrawLine>(sheet: &mut Sheet<D>, line: TextLine<'_>) -> Result<(), Unread>
+    ensures { λ r. ⌜ Cases r (λ _. LineLeads Written (viewOf (now (sheet .entry))) (line .entry .number) (line .entry .bytes .now) (viewOf (now (sheet .exit)))) (λ unread. FaultOf (line .entry .number) unread) ⌝ }
+{
     match checked_entry(sheet, line) {
         Ok(Some((number, entry))) => sheet.add(number, entry)?,
         Ok(None) => {}
@@ -65,7 +94,9 @@ fn read_line<D: DrawLine>(sheet: &mut Sheet<D>, line: TextLine<'_>) -> Result<()
     Ok(())
 }
 
-fn read_sheet<D: DrawLine>(heap: Global, bytes: &[u8]) -> Result<Sheet<D>, Unread> {
+fn read_sheet<D: DrawLine>(heap: Global, bytes: &[u8]) -> Result<Sheet<D>, Unread>
+    ensures { λ r. ⌜ Cases r (λ sheet. Leads Written start 0 (linesOf (now (bytes .entry))) (viewOf sheet)) (λ unread. Stopped Written (linesOf (now (bytes .entry))) unread) ⌝ }
+{
     let mut sheet = Sheet::new(heap);
     for line in Lines::new(bytes) {
         read_line(&mut sheet, line)?;
@@ -74,7 +105,9 @@ fn read_sheet<D: DrawLine>(heap: Global, bytes: &[u8]) -> Result<Sheet<D>, Unrea
 }
 
 // The sheet that the script asks for, or the first line that is faulty.
-pub fn read_script(heap: Global, bytes: &[u8]) -> Result<Script, Unread> {
+pub fn read_script(heap: Global, bytes: &[u8]) -> Result<Script, Unread>
+    ensures { λ r. ⌜ Cases r (λ script. Whole (linesOf (now (bytes .entry))) script) (λ unread. Failed (linesOf (now (bytes .entry))) unread) ⌝ }
+{
     match sheet_kind(bytes) {
         Kind::Fill => Ok(Script::Fills(read_sheet(heap, bytes)?)),
         Kind::Run => Ok(Script::Runs(read_sheet(heap, bytes)?)),

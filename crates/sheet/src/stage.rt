@@ -1,4 +1,15 @@
 // A recorder and the lists that its calls are made on.
+ghost use mathlib.Core.Path.{_≡_};
+ghost use Prim.Native.Nat.{ℕ, _+_, _*_, min};
+ghost use Rattle.std.specs.Of.Vec.{vec-items, vec-len};
+ghost use Rattle.std.specs.Options.{valueOr};
+ghost use Rattle.std.specs.declared.option.Option.the-variants.{Some};
+ghost use Rattle.refusal.specs.Refusals.{Answers};
+ghost use Rattle.record.specs.Account.{closeQuestions};
+ghost use Rattle.record.specs.Pushed.{Pushed};
+ghost use Rattle.record.specs.Recording.{recording, drawQuestions, resetQuestions, afterReset, openQuestions, afterOpening, afterClosing, innermostKind, active};
+ghost use Rattle.script.specs.Sheets.{drawLines};
+ghost use Rattle.sheet.specs.declared.answer.Answer.the-variants.{Reset, Draw, Enter, Leave};
 use crate::answer::Answer;
 use crate::answer::AnswerDisplay;
 use crate::answer::Refused;
@@ -40,10 +51,12 @@ struct Stage<'a, D> {
 
 // How many places the draw list gets: as many as the script says, or one for each of its draw lines.
 // A recorder takes no more than MAX_DRAWS draws, so that further places are never read or written.
-fn draw_places<D>(sheet: &Sheet<D>) -> usize {
+fn draw_places<D>(sheet: &Sheet<D>) -> usize
+    ensures { λ r. ⌜ r ≡ min (valueOr (now (sheet .entry) .places) (drawLines (vec-items (now (sheet .entry) .lines)))) 1048576 ⌝ }
+{
     let places = match sheet.places {
         Some(places) => places as usize,
-        None => sheet.draw_lines,
+        None => sheet.draw_lines(),
     };
     places.min(MAX_DRAWS as usize)
 }
@@ -62,24 +75,38 @@ impl<'a, D: DrawLine> Stage<'a, D> {
         })
     }
 
-    fn reset(&mut self, width: u16, height: u16) -> Result<Answer, Refusal> {
+    fn reset(&mut self, width: u16, height: u16) -> Result<Answer, Refusal>
+        ensures { λ r. ⌜ Answers (resetQuestions width height) r (λ a. (a ≡ Reset ((recording (now (self .exit) .recorder)) .account .scene)) × ((recording (now (self .exit) .recorder)) ≡ afterReset width height)) (now (self .exit) .recorder ≡ now (self .entry) .recorder) ⌝ }
+    {
         self.recorder.reset(width, height)?;
         Ok(Answer::Reset(self.recorder.scene_size()))
     }
 
+<<<<<<< HEAD
     fn draw(&mut self, draw: Result<D, Refusal>, line: u32) -> Result<Answer, Refusal> {
         let tagged = Tagged { draw: draw?, line };
         let number = self.recorder
             .push_draw(tagged, self.draws.as_mut_slice(), self.strips)?;
+=======
+    fn draw(&mut self, draw: D, line: u32) -> Result<Answer, Refusal>
+        ensures { λ r. ⌜ Answers (drawQuestions (vec-len (now (self .entry) .draws)) (recording (now (self .entry) .recorder))) r (λ a. (n : ℕ) × (a ≡ Draw n) × Pushed n (record { draw = draw; line = line }) (D·Drawable .boxOf draw (now (self .entry) .strips .now)) (D·Drawable .modeOf draw) (recording (now (self .entry) .recorder)) (recording (now (self .exit) .recorder)) (vec-items (now (self .entry) .draws)) (vec-items (now (self .exit) .draws))) (now (self .exit) .recorder ≡ now (self .entry) .recorder) ⌝ }
+    {
+        let tagged = Tagged { draw, line };
+        let number = self.recorder.push_draw(tagged, self.draws.as_mut_slice(), self.strips)?;
+>>>>>>> edc100ad59e232c75314ccdbf722109fd25bef08
         Ok(Answer::Draw(number))
     }
 
-    fn open(&mut self, props: LayerProps, filter: Option<FilterData>) -> Result<Answer, Refusal> {
+    fn open(&mut self, props: LayerProps, filter: Option<FilterData>) -> Result<Answer, Refusal>
+        ensures { λ r. ⌜ Answers (openQuestions props filter (recording (now (self .entry) .recorder))) r (λ a. (a ≡ Enter ((recording (now (self .entry) .recorder)) .account .layers)) × ((recording (now (self .exit) .recorder)) ≡ afterOpening props filter (recording (now (self .entry) .recorder)))) (now (self .exit) .recorder ≡ now (self .entry) .recorder) ⌝ }
+    {
         let layer = self.recorder.push_layer(props, filter)?;
         Ok(Answer::Enter(layer))
     }
 
-    fn close(&mut self) -> Result<Answer, Refusal> {
+    fn close(&mut self) -> Result<Answer, Refusal>
+        ensures { λ r. ⌜ Answers (closeQuestions ((recording (now (self .entry) .recorder)) .account)) r (λ a. (layer : ℕ) × (active (recording (now (self .entry) .recorder)) ≡ Some layer) × (a ≡ Leave layer (innermostKind ((recording (now (self .entry) .recorder)) .account .opened))) × ((recording (now (self .exit) .recorder)) ≡ afterClosing (recording (now (self .entry) .recorder)))) (now (self .exit) .recorder ≡ now (self .entry) .recorder) ⌝ }
+    {
         let Some(layer) = self.recorder.active_layer() else {
             return Err(Refusal::NoLayerOpen);
         };
@@ -88,9 +115,16 @@ impl<'a, D: DrawLine> Stage<'a, D> {
     }
 
     // A walk lists each draw once and each layer twice, so that further places stay as they are.
+<<<<<<< HEAD
     fn walk_places(&self, room: Option<u32>) -> usize {
         let entries = self.recorder.draw_count() as usize
             + 2 * self.recorder.layer_count() as usize;
+=======
+    fn walk_places(&self, room: Option<u32>) -> usize
+        ensures { λ r. ⌜ r ≡ min ((recording (now (self .entry) .recorder)) .account .drawn + 2 * (recording (now (self .entry) .recorder)) .account .layers) (valueOr room ((recording (now (self .entry) .recorder)) .account .drawn + 2 * (recording (now (self .entry) .recorder)) .account .layers)) ⌝ }
+    {
+        let entries = self.recorder.draw_count() as usize + 2 * self.recorder.layer_count() as usize;
+>>>>>>> edc100ad59e232c75314ccdbf722109fd25bef08
         match room {
             Some(room) => entries.min(room as usize),
             None => entries,
@@ -133,7 +167,8 @@ impl<'a, D: DrawLine> Stage<'a, D> {
             Call::Reset { width, height } => {
                 print_answer(out, number, self.reset(width, height))?;
             }
-            Call::Draw(draw) => print_answer(out, number, self.draw(draw, number))?,
+            Call::Draw(Ok(draw)) => print_answer(out, number, self.draw(draw, number))?,
+            Call::Draw(Err(refusal)) => print_answer(out, number, Err(refusal))?,
             Call::Open { props, filter } => print_answer(out, number, self.open(props, filter))?,
             Call::Close => print_answer(out, number, self.close())?,
             Call::Walk { room } => self.print_walk(out, number, room)?,
