@@ -19,7 +19,7 @@ draw-lines-at lines i line draws lt is told =
 
 pub draw-lines-none : {D : Type 0} (lines : List (Line D)) (i : ℕ) → length lines ≤ i → drawLines (drop i lines) ≡ 0
 draw-lines-none lines i le = none (drop i lines) (omega (arith, length-drop i lines))
-    where
-      none : {D : Type 0} (rest : List (Line D)) → length rest ≡ 0 → drawLines rest ≡ 0
-      none [] e = refl
-      none (line ∷ rest) e = absurd (omega arith)
+  where
+    none : {D : Type 0} (rest : List (Line D)) → length rest ≡ 0 → drawLines rest ≡ 0
+    none [] e = refl
+    none (line ∷ rest) e = absurd (omega arith)

@@ -56,10 +56,10 @@ cut-last bs n le unfed none some =
     let empty = nil-from-length (drop n bs) none in
     let whole : take n bs ≡ bs = sym (append-nil (take n bs)) ∙ ap (λ l. take n bs ++ l) (sym empty) ∙ take-append-drop n bs in
     rw empty (lines-whole bs (subst Unfed whole (unfed-take n bs le unfed)) some ∙ ap (λ l. l ∷ []) (sym whole))
-    where
-      nil-from-length : (xs : List ℕ) → length xs ≡ 0 → xs ≡ []
-      nil-from-length [] e = refl
-      nil-from-length (x ∷ xs) e = absurd (omega arith)
+  where
+    nil-from-length : (xs : List ℕ) → length xs ≡ 0 → xs ≡ []
+    nil-from-length [] e = refl
+    nil-from-length (x ∷ xs) e = absurd (omega arith)
 
 pub lines-none : (bs : List ℕ) → length bs ≡ 0 → linesOf bs ≡ []
 lines-none [] e = refl

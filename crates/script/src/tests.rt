@@ -40,48 +40,69 @@ fn check_faults(heap: Global, cases: &[Case]) -> Result<(), Fail> {
 
 #[test]
 fn faulty_words(rt: LibcRuntime) -> Result<(), Fail> {
-    check_faults(rt.alloc(), &[
-        faulty("# no\n\nshut\n", 3, Reason::UnknownWord),
-        faulty("close\r", 1, Reason::UnknownWord),
-        faulty("close now\n", 1, Reason::SurplusWord),
-        faulty("open opacity 1 mode 0 3\n", 1, Reason::SurplusWord),
-        faulty("open opacity x\n", 1, Reason::NotAnOpacity),
-        faulty("open filter 1 source 0 0 0 0\n", 1, Reason::PadMissing),
-        faulty("open filter 1 pad 0 0 0 0\n", 1, Reason::SourceMissing),
-        faulty("kind\n", 1, Reason::UnknownKind),
-    ])
+    check_faults(
+        rt.alloc(),
+        &[
+            faulty("# no\n\nshut\n", 3, Reason::UnknownWord),
+            faulty("close\r", 1, Reason::UnknownWord),
+            faulty("close now\n", 1, Reason::SurplusWord),
+            faulty("open opacity 1 mode 0 3\n", 1, Reason::SurplusWord),
+            faulty("open opacity x\n", 1, Reason::NotAnOpacity),
+            faulty("open filter 1 source 0 0 0 0\n", 1, Reason::PadMissing),
+            faulty("open filter 1 pad 0 0 0 0\n", 1, Reason::SourceMissing),
+            faulty("kind\n", 1, Reason::UnknownKind),
+        ],
+    )
 }
 
 #[test]
 fn faulty_numbers(rt: LibcRuntime) -> Result<(), Fail> {
-    check_faults(rt.alloc(), &[
-        faulty("reset 1\n", 1, Reason::NumberMissing),
-        faulty("reset +1 1\n", 1, Reason::NotANumber),
-        faulty("reset 65535 65536\n", 1, Reason::NumberTooLarge),
-        faulty("fill 0 0 1 1 mode 255 256\n", 1, Reason::NumberTooLarge),
-        faulty("walk room 4294967296\n", 1, Reason::NumberTooLarge),
-    ])
+    check_faults(
+        rt.alloc(),
+        &[
+            faulty("reset 1\n", 1, Reason::NumberMissing),
+            faulty("reset +1 1\n", 1, Reason::NotANumber),
+            faulty("reset 65535 65536\n", 1, Reason::NumberTooLarge),
+            faulty("fill 0 0 1 1 mode 255 256\n", 1, Reason::NumberTooLarge),
+            faulty("walk room 4294967296\n", 1, Reason::NumberTooLarge),
+        ],
+    )
 }
 
 #[test]
 fn faulty_order(rt: LibcRuntime) -> Result<(), Fail> {
-    check_faults(rt.alloc(), &[
-        faulty("kind fill\nkind fill\n", 2, Reason::KindNotFirst),
-        faulty("places 1\nkind run\n", 2, Reason::KindNotFirst),
-        faulty("report\nstrip 0 0 4\n", 2, Reason::StripAfterCall),
-        faulty("walk\nplaces 1\n", 2, Reason::PlacesAfterCall),
-        faulty("places 1\nplaces 1\n", 2, Reason::PlacesTwice),
-        faulty("kind run\nfill 0 0 1 1\n", 2, Reason::FillAmongRuns),
-        faulty("run 0 1\n", 1, Reason::RunAmongFills),
-    ])
+    check_faults(
+        rt.alloc(),
+        &[
+            faulty("kind fill\nkind fill\n", 2, Reason::KindNotFirst),
+            faulty("places 1\nkind run\n", 2, Reason::KindNotFirst),
+            faulty("report\nstrip 0 0 4\n", 2, Reason::StripAfterCall),
+            faulty("walk\nplaces 1\n", 2, Reason::PlacesAfterCall),
+            faulty("places 1\nplaces 1\n", 2, Reason::PlacesTwice),
+            faulty("kind run\nfill 0 0 1 1\n", 2, Reason::FillAmongRuns),
+            faulty("run 0 1\n", 1, Reason::RunAmongFills),
+        ],
+    )
 }
 
 #[test]
 fn faulty_text(rt: LibcRuntime) -> Result<(), Fail> {
     let heap = rt.alloc();
     let not_text = Reason::NotText;
-    check_eq(fault_of(heap, b"close\n# \xff\nshut\n"), Some(Fault { line: 2, reason: not_text }))?;
-    check_eq(fault_of(heap, b"shut\n\xff\n"), Some(Fault { line: 1, reason: Reason::UnknownWord }))
+    check_eq(
+        fault_of(heap, b"close\n# \xff\nshut\n"),
+        Some(Fault {
+            line: 2,
+            reason: not_text,
+        }),
+    )?;
+    check_eq(
+        fault_of(heap, b"shut\n\xff\n"),
+        Some(Fault {
+            line: 1,
+            reason: Reason::UnknownWord,
+        }),
+    )
 }
 
 #[test]
@@ -101,7 +122,10 @@ fn no_faults(rt: LibcRuntime) -> Result<(), Fail> {
 
 #[test]
 fn a_sheet_of_runs(rt: LibcRuntime) -> Result<(), Fail> {
-    let script = read_script(rt.alloc(), b"# strips\nkind run\nstrip 0 0 4\nrun 0 1\nwalk\nrun 0 0\n");
+    let script = read_script(
+        rt.alloc(),
+        b"# strips\nkind run\nstrip 0 0 4\nrun 0 1\nwalk\nrun 0 0\n",
+    );
     let Ok(Script::Runs(sheet)) = script else {
         return Err(Fail::new("no sheet of runs"));
     };

@@ -82,18 +82,12 @@ impl<'a, D: DrawLine> Stage<'a, D> {
         Ok(Answer::Reset(self.recorder.scene_size()))
     }
 
-<<<<<<< HEAD
-    fn draw(&mut self, draw: Result<D, Refusal>, line: u32) -> Result<Answer, Refusal> {
-        let tagged = Tagged { draw: draw?, line };
-        let number = self.recorder
-            .push_draw(tagged, self.draws.as_mut_slice(), self.strips)?;
-=======
     fn draw(&mut self, draw: D, line: u32) -> Result<Answer, Refusal>
         ensures { λ r. ⌜ Answers (drawQuestions (vec-len (now (self .entry) .draws)) (recording (now (self .entry) .recorder))) r (λ a. (n : ℕ) × (a ≡ Draw n) × Pushed n (record { draw = draw; line = line }) (D·Drawable .boxOf draw (now (self .entry) .strips .now)) (D·Drawable .modeOf draw) (recording (now (self .entry) .recorder)) (recording (now (self .exit) .recorder)) (vec-items (now (self .entry) .draws)) (vec-items (now (self .exit) .draws))) (now (self .exit) .recorder ≡ now (self .entry) .recorder) ⌝ }
     {
         let tagged = Tagged { draw, line };
-        let number = self.recorder.push_draw(tagged, self.draws.as_mut_slice(), self.strips)?;
->>>>>>> edc100ad59e232c75314ccdbf722109fd25bef08
+        let number = self.recorder
+            .push_draw(tagged, self.draws.as_mut_slice(), self.strips)?;
         Ok(Answer::Draw(number))
     }
 
@@ -115,16 +109,11 @@ impl<'a, D: DrawLine> Stage<'a, D> {
     }
 
     // A walk lists each draw once and each layer twice, so that further places stay as they are.
-<<<<<<< HEAD
-    fn walk_places(&self, room: Option<u32>) -> usize {
-        let entries = self.recorder.draw_count() as usize
-            + 2 * self.recorder.layer_count() as usize;
-=======
     fn walk_places(&self, room: Option<u32>) -> usize
         ensures { λ r. ⌜ r ≡ min ((recording (now (self .entry) .recorder)) .account .drawn + 2 * (recording (now (self .entry) .recorder)) .account .layers) (valueOr room ((recording (now (self .entry) .recorder)) .account .drawn + 2 * (recording (now (self .entry) .recorder)) .account .layers)) ⌝ }
     {
-        let entries = self.recorder.draw_count() as usize + 2 * self.recorder.layer_count() as usize;
->>>>>>> edc100ad59e232c75314ccdbf722109fd25bef08
+        let entries = self.recorder.draw_count() as usize
+            + 2 * self.recorder.layer_count() as usize;
         match room {
             Some(room) => entries.min(room as usize),
             None => entries,

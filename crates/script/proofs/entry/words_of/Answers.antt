@@ -12,14 +12,13 @@ pub returns-then-starts-with : need.returns-then-starts-with
 returns-then-starts-with c =
     let word = c .in-Some .word .now in
     let split : wordsOf (c .args .bytes .now) ≡ word ∷ left (c .next-word .last .self) =
-        ap wordsOf (sym (c .in-Ok .ensures tt .cases .0)) ∙ sym (c .new-words .ensures) ∙ c .in-Some .ensures tt
+    ap wordsOf (sym (c .in-Ok .ensures tt .cases .0)) ∙ sym (c .new-words .ensures) ∙ c .in-Some .ensures tt
     in
     (c .in-Ok .ensures tt .cases .1, subst PassedOver (sym split) (starts-char 35 word (c .starts-with .result) (c .starts-with .ensures .cases) (omega arith) (omega arith) .0 (c .if-starts-with .taken)))
 
 pub returns : need.returns
 returns c =
-    let word = c .in-Some .word .now in
-    (
+    let word = c .in-Some .word .now in (
       c .in-Ok .ensures tt .cases .1,
       (
         ap wordsOf (sym (c .in-Ok .ensures tt .cases .0)) ∙ sym (c .new-words .ensures) ∙ c .in-Some .ensures tt,

@@ -10,12 +10,12 @@ pub loop-line-again : need.loop-line-again
 loop-line-again g c =
     let (few, sum) = c .loop-line .inv in
     elim (c .if-is-draw .came) [
-      then-is-draw w ↦
-        let at = draw-lines-at (c .as-slice-lines .result .now) (c .loop-line .line-index) (c .line-item .result) true (c .loop-line-test .taken) (c .line-item .is) (sym (w .if-is-draw .taken) ∙ c .is-draw .ensures) in
-        (omega (arith, few, w .count-is), omega (arith, sum, at, w .count-is))
+      | then-is-draw w ↦
+          let at = draw-lines-at (c .as-slice-lines .result .now) (c .loop-line .line-index) (c .line-item .result) true (c .loop-line-test .taken) (c .line-item .is) (sym (w .if-is-draw .taken) ∙ c .is-draw .ensures) in
+          (omega (arith, few, w .count-is), omega (arith, sum, at, w .count-is))
       | else-is-draw w ↦
-        let at = draw-lines-at (c .as-slice-lines .result .now) (c .loop-line .line-index) (c .line-item .result) false (c .loop-line-test .taken) (c .line-item .is) (sym (w .if-is-draw .left) ∙ c .is-draw .ensures) in
-        (omega (arith, few, w .count-is), omega (arith, sum, at, w .count-is))
+          let at = draw-lines-at (c .as-slice-lines .result .now) (c .loop-line .line-index) (c .line-item .result) false (c .loop-line-test .taken) (c .line-item .is) (sym (w .if-is-draw .left) ∙ c .is-draw .ensures) in
+          (omega (arith, few, w .count-is), omega (arith, sum, at, w .count-is))
     ]
 
 pub returns : need.returns

@@ -13,8 +13,7 @@ returns g c =
     let (asked, pushed) = c .in-Continue-number .ensures tt in
     let lent = c .as-mut-slice .ensures in
     let n : ℕ = c .in-Continue-number .number in
-    let long : length (c .push-draw .last .draws) ≡ c .args .self .now .draws .len = ap length (pushed .written) ∙ length-set _ _ _ ∙ lent .len in
-    (
+    let long : length (c .push-draw .last .draws) ≡ c .args .self .now .draws .len = ap length (pushed .written) ∙ length-set _ _ _ ∙ lent .len in (
       subst (λ places. firstNo (drawQuestions places (recording (c .args .self .now .recorder))) ≡ None) (lent .len) asked,
       (
         n,
