@@ -81,27 +81,6 @@ pub impl<'a> Iterator for Lines<'a> as LinesIterator {
         if self.rest.is_empty() {
             return None;
         }
-<<<<<<< HEAD
-        let (line, after) = self.rest.split_at(line_len(self.rest));
-        self.taken = self.taken.saturating_add(1);
-        let number = self.taken;
-        match after {
-            [] => {
-                self.rest = after;
-                Some(TextLine {
-                    number,
-                    bytes: line,
-                })
-            }
-            [_, rest @ ..] => {
-                self.rest = rest;
-                Some(TextLine {
-                    number,
-                    bytes: without_return(line),
-                })
-            }
-        }
-=======
         let (bytes, rest) = cut_line(self.rest);
         self.rest = rest;
         self.taken += 1;
@@ -109,6 +88,5 @@ pub impl<'a> Iterator for Lines<'a> as LinesIterator {
             number: self.taken,
             bytes,
         })
->>>>>>> edc100ad59e232c75314ccdbf722109fd25bef08
     }
 }
