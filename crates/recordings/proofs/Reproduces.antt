@@ -6,4 +6,4 @@ use Rattle.recordings.specs.Known.{Reproduced, known}
 
 pub reproduced : All Reproduced known
 unfolding le lt eq
-reproduced = ((refl, refl), ((refl, refl), ((refl, refl), ((refl, refl), ((refl, refl), ((refl, refl), ((refl, refl), ((refl, refl), tt))))))))
+reproduced = ((refl, refl, refl), ((refl, refl, refl), ((refl, refl, refl), ((refl, refl, refl), ((refl, refl, refl), ((refl, refl, refl), ((refl, refl, refl), ((refl, refl, refl), ((refl, refl, refl), tt)))))))))

@@ -1,7 +1,7 @@
 -- The known recordings in one table, and what it means that the rules give each.
 use mathlib.Core.Path.{_≡_}
 use mathlib.Core.Bool.{false}
-use mathlib.Core.List.{List, [], _∷_}
+use mathlib.Core.List.{List, [], _∷_, map}
 use Prim.Native.Nat.{ℕ}
 use lib.Ieee.{fin}
 use lib.IntN.{pos}
@@ -9,6 +9,7 @@ use Rattle.std.specs.declared.option.Option.{Option}
 use Rattle.std.specs.declared.option.Option.the-variants.{Some, None}
 use Rattle.geometry.specs.declared.padding.PaddingU16.{PaddingU16}
 use Rattle.geometry.specs.declared.rect.RectU16.{RectU16}
+use Rattle.geometry.specs.declared.tile.Tile.{Tile}
 use Rattle.geometry.specs.Rect.{rect, zero}
 use Rattle.geometry.specs.Size.{size}
 use Rattle.filter.specs.declared.data.FilterData.{FilterData}
@@ -16,17 +17,26 @@ use Rattle.filter.specs.declared.placement.FilterLayerPlacement.{FilterLayerPla
 use Rattle.filter.specs.Placement.{unplaced}
 use Rattle.record.specs.declared.props.LayerProps.{LayerProps}
 use Rattle.record.specs.declared.props.LayerClip.{LayerClip}
+use Rattle.walk.specs.declared.listed.Listed.{Listed}
 use Rattle.walk.specs.declared.listed.Listed.the-variants.{Draw, Enter, Leave}
-use Rattle.recordings.specs.Steps.{Step, Reset, Fill, Open, Close, Seen, seen, new, runFrom, answersFrom}
+use Rattle.recordings.specs.Steps.{Step, Reset, Fill, Open, Close, Seen, seen, new, runFrom, answersFrom, tileSeen}
 
 pub record Known : Type 0 where
   pub steps : List Step
   -- the refusals' numbers
   pub answers : List (Option ℕ)
+  -- tiles of the scene, each with its list
+  pub tiles : List (Tile × List Listed)
   pub end : Seen
 
 abbrev pub Reproduced : Known → Type 0
-Reproduced k = (answersFrom new (k .steps) ≡ k .answers) × (seen (runFrom new (k .steps)) ≡ k .end)
+Reproduced k =
+    (answersFrom new (k .steps) ≡ k .answers)
+    × (map (λ c. (c .0, tileSeen (k .steps) (c .0))) (k .tiles) ≡ k .tiles)
+    × (seen (runFrom new (k .steps)) ≡ k .end)
+
+abbrev pub tile : ℕ → ℕ → Tile
+tile c r = record { x = c; y = r }
 
 -- default blend mode, opacity 1, no mask
 abbrev pub plain : Option LayerClip → LayerProps
@@ -51,18 +61,21 @@ known =
     record {
       steps = Reset 1001 6 ∷ [];
       answers = None ∷ [];
+      tiles = [];
       end = record { scene = size 1004 8; entries = []; nodes = 0; boxes = []; placements = []; contents = [] };
     } ∷
     -- 65,533 is no scene's width
     record {
       steps = Reset 65533 1 ∷ [];
       answers = Some 2 ∷ [];
+      tiles = [];
       end = record { scene = size 0 0; entries = []; nodes = 0; boxes = []; placements = []; contents = [] };
     } ∷
     -- draw, open, draw, close, draw: three nodes
     record {
       steps = Fill (rect 0 0 4 4) ∷ Open (plain None) None ∷ Fill (rect 8 8 12 12) ∷ Close ∷ Fill (rect 4 4 8 8) ∷ [];
       answers = None ∷ None ∷ None ∷ None ∷ None ∷ [];
+      tiles = [];
       end = record {
         scene = size 0 0;
         entries = Draw 0 ∷ Enter 0 ∷ Draw 1 ∷ Leave 0 ∷ Draw 2 ∷ [];
@@ -76,12 +89,14 @@ known =
     record {
       steps = Open (plain (clipTo (rect 4 4 12 12))) None ∷ Close ∷ [];
       answers = None ∷ None ∷ [];
+      tiles = [];
       end = record { scene = size 0 0; entries = Enter 0 ∷ Leave 0 ∷ []; nodes = 1; boxes = rect 4 4 4 4 ∷ []; placements = None ∷ []; contents = [] };
     } ∷
     -- a filter layer whose pixmap begins before the shift: 16 columns are cut off
     record {
       steps = Open (plain None) None ∷ Open (plain None) (shadow (padding 4 4 4 4)) ∷ Fill (rect 8 8 40 16) ∷ Close ∷ [];
       answers = None ∷ None ∷ None ∷ None ∷ [];
+      tiles = [];
       end = record {
         scene = size 0 0;
         entries = Enter 0 ∷ Enter 1 ∷ Draw 0 ∷ Leave 1 ∷ Leave 0 ∷ [];
@@ -95,6 +110,7 @@ known =
     record {
       steps = Open (plain None) None ∷ Open (plain None) (shadow (padding 4 4 4 4)) ∷ Fill (rect 8 8 16 16) ∷ Close ∷ [];
       answers = None ∷ None ∷ None ∷ None ∷ [];
+      tiles = [];
       end = record {
         scene = size 0 0;
         entries = Enter 0 ∷ Enter 1 ∷ Draw 0 ∷ Leave 1 ∷ Leave 0 ∷ [];
@@ -108,6 +124,7 @@ known =
     record {
       steps = Open (plain None) (shadow (padding 0 0 4 0)) ∷ Fill (rect 65520 0 65528 4) ∷ Close ∷ [];
       answers = None ∷ None ∷ None ∷ [];
+      tiles = [];
       end = record {
         scene = size 0 0;
         entries = Enter 0 ∷ Draw 0 ∷ Leave 0 ∷ [];
@@ -121,6 +138,7 @@ known =
     record {
       steps = Open (plain None) (shadow (padding 0 0 5 0)) ∷ Fill (rect 65520 0 65528 4) ∷ Close ∷ [];
       answers = None ∷ None ∷ Some 9 ∷ [];
+      tiles = [];
       end = record {
         scene = size 0 0;
         entries = Enter 0 ∷ Draw 0 ∷ Leave 0 ∷ [];
@@ -128,6 +146,20 @@ known =
         boxes = zero ∷ [];
         placements = Some unplaced ∷ [];
         contents = Some (rect 65520 0 65528 4) ∷ [];
+      };
+    } ∷
+    -- a clip round a draw hides the tiles that it does not cover
+    record {
+      steps = Open (plain (clipTo (rect 0 0 8 8))) None ∷ Fill (rect 0 0 16 16) ∷ Close ∷ [];
+      answers = None ∷ None ∷ None ∷ [];
+      tiles = (tile 1 1, Enter 0 ∷ Draw 0 ∷ Leave 0 ∷ []) ∷ (tile 2 1, []) ∷ [];
+      end = record {
+        scene = size 0 0;
+        entries = Enter 0 ∷ Draw 0 ∷ Leave 0 ∷ [];
+        nodes = 2;
+        boxes = rect 0 0 8 8 ∷ [];
+        placements = None ∷ [];
+        contents = [];
       };
     } ∷
     []

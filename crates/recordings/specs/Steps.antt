@@ -21,7 +21,10 @@ use Rattle.record.specs.declared.props.LayerProps.{LayerProps}
 use Rattle.record.specs.Account.{closeQuestions}
 use Rattle.record.specs.Recording.{Recording, emptyRecording, resetQuestions, afterReset, drawQuestions, afterDraw, openQuestions, afterOpening, afterClosing}
 use Rattle.walk.specs.declared.listed.Listed.{Listed}
+use Rattle.geometry.specs.declared.tile.Tile.{Tile}
+use Rattle.walk.specs.declared.surface.Surface.the-variants.{Scene}
 use Rattle.walk.specs.FullWalk.{listed}
+use Rattle.walk.specs.Tile.{drawShows, tileListed}
 
 -- a fill is a draw of a rectangle without a blend mode
 pub data Step : Type 0 where
@@ -88,3 +91,15 @@ seen r = record {
   placements = map (λ x. placementOf (x .kind)) (r .tree .layers);
   contents = map (λ o. o .contents) (r .account .opened);
 }
+
+-- the fills among the steps, all of them accepted and none before a reset, as the draw list
+abbrev pub fills : List Step → List RectU16
+fills [] = []
+fills (Reset w h ∷ steps) = fills steps
+fills (Fill b ∷ steps) = b ∷ fills steps
+fills (Open props f ∷ steps) = fills steps
+fills (Close ∷ steps) = fills steps
+
+-- the list of a tile on the scene
+abbrev pub tileSeen : List Step → Tile → List Listed
+tileSeen steps t = tileListed Scene t (drawShows snapped t (fills steps)) (runFrom new steps)

@@ -10,6 +10,7 @@ use geometry::rect::RectU16PartialEq;
 use geometry::size::SizeU16;
 use geometry::size::SizeU16Debug;
 use geometry::size::SizeU16PartialEq;
+use geometry::tile::Tile;
 use record::layer::PoppedLayer;
 use record::layer::PoppedLayerDebug;
 use record::layer::PoppedLayerPartialEq;
@@ -27,6 +28,9 @@ use walk::full::full_walk;
 use walk::listed::Listed;
 use walk::listed::ListedDebug;
 use walk::listed::ListedPartialEq;
+use walk::surface::Surface;
+use walk::tile::hit;
+use walk::tile::tile_walk;
 
 // The number of the refusal, or 0 where the call was accepted.
 fn number<T: Drop>(answer: Result<T, Refusal>) -> u32 {
@@ -130,6 +134,31 @@ fn empty_clipped_layer() -> Result<(), Fail> {
     check_eq(layer(&recorder, 0)?.bbox, RectU16::new(4, 4, 4, 4))?;
     check_eq(recorder.largest_layer_size(), Some(SizeU16::ZERO))?;
     check_eq(recorder.pop_layer(), Err(Refusal::NoLayerOpen))
+}
+
+#[test]
+fn clipped_tiles() -> Result<(), Fail> {
+    let mut recorder = CommandRecorder::new();
+    let fill = Fill::new(RectU16::new(0, 0, 16, 16), None)?;
+    let mut draws = [fill; 1];
+    recorder.push_layer(plain(Some(RectU16::new(0, 0, 8, 8))), None)?;
+    recorder.push_draw(fill, &mut draws, &[])?;
+    recorder.pop_layer()?;
+    let inside = Tile { x: 1, y: 1 };
+    let outside = Tile { x: 2, y: 1 };
+    let mut out = [Listed::Draw(9); 3];
+    check_eq(
+        tile_walk(&recorder, Surface::Scene, outside, &draws, &[], &mut out),
+        Ok(0),
+    )?;
+    check_eq(out, [Listed::Draw(9); 3])?;
+    check_eq(
+        tile_walk(&recorder, Surface::Scene, inside, &draws, &[], &mut out),
+        Ok(3),
+    )?;
+    check_eq(out, [Listed::Enter(0), Listed::Draw(0), Listed::Leave(0)])?;
+    check_eq(hit(&recorder, inside, &draws, &[]), Ok(Some(0)))?;
+    check_eq(hit(&recorder, outside, &draws, &[]), Ok(None))
 }
 
 // A filter layer with one fill inside a regular layer: its destination and origin, and the regular layer's box.
