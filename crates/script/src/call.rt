@@ -2,13 +2,10 @@
 ghost use mathlib.Core.Path.{_≡_};
 ghost use Rattle.script.specs.Calls.{isDraw};
 use filter::data::FilterData;
-use filter::data::FilterDataDebug;
 use record::props::LayerProps;
-use record::props::LayerPropsDebug;
 use refusal::Refusal;
-use refusal::RefusalDebug;
 
-#[derive(Clone, Copy, Debug)]
+#[derive(Drop)]
 pub enum Call<D> {
     Reset {
         width: u16,
@@ -37,7 +34,7 @@ impl<D> Call<D> {
 }
 
 // A call and the number of its line, counted from 1.
-#[derive(Clone, Copy, Debug)]
+#[derive(Drop)]
 pub struct Line<D> {
     pub number: u32,
     pub call: Call<D>,

@@ -15,7 +15,6 @@ ghost use Rattle.script.specs.Calls.{sizeOf, openOf, Says, kindOf, SaysEntry, 
 ghost use Rattle.script.specs.Parts.{left, Reads, stripOf, roomOf};
 ghost use Rattle.script.specs.Words.{wordsOf};
 use crate::call::Call;
-use crate::call::CallClone;
 use crate::draw_line::DrawLine;
 use crate::draw_line::Kind;
 use crate::fault::Reason;
@@ -24,7 +23,7 @@ use crate::open::read_props;
 use crate::words::Words;
 use draws::strip::Strip;
 
-#[derive(Clone, Copy)]
+#[derive(Drop)]
 pub enum Entry<D> {
     Kind(Kind),
     Strip(Strip),
@@ -32,6 +31,7 @@ pub enum Entry<D> {
     Call(Call<D>),
 }
 
+// `fill` or `run`
 pub fn read_kind(words: &mut Words<'_>) -> Result<Kind, Reason>
     ensures { λ r. ⌜ Reads kindOf (left (now (words .entry))) r (left (now (words .exit))) ⌝ }
 {
@@ -44,6 +44,7 @@ pub fn read_kind(words: &mut Words<'_>) -> Result<Kind, Reason>
     Err(Reason::UnknownKind)
 }
 
+// `X Y WIDTH`
 fn read_strip(words: &mut Words<'_>) -> Result<Strip, Reason>
     ensures { λ r. ⌜ Reads stripOf (left (now (words .entry))) r (left (now (words .exit))) ⌝ }
 {
@@ -53,6 +54,7 @@ fn read_strip(words: &mut Words<'_>) -> Result<Strip, Reason>
     Ok(Strip { x, y, width })
 }
 
+// `[room N]`
 fn read_room(words: &mut Words<'_>) -> Result<Option<u32>, Reason>
     ensures { λ r. ⌜ Reads roomOf (left (now (words .entry))) r (left (now (words .exit))) ⌝ }
 {
@@ -62,22 +64,25 @@ fn read_room(words: &mut Words<'_>) -> Result<Option<u32>, Reason>
     Ok(Some(words.number32()?))
 }
 
+// `WIDTH HEIGHT`
 fn read_reset<D>(words: &mut Words<'_>) -> Result<Call<D>, Reason>
-    ensures { λ r. ⌜ Cases r (λ call. (width : ℕ) × (height : ℕ) × (call ≡ Reset width height) × (sizeOf (left (now (words .entry))) ≡ Some ((width, height), (left (now (words .exit)))))) (λ _. sizeOf (left (now (words .entry))) ≡ None) ⌝ }
+    ensures { λ r. ⌜ Cases r (λ call. (width : ℕ) × (height : ℕ) × (call ≡ Reset width height) × (sizeOf (left (now (words .entry))) ≡ Some ((width, height), left (now (words .exit))))) (λ _. sizeOf (left (now (words .entry))) ≡ None) ⌝ }
 {
     let width = words.number16()?;
     let height = words.number16()?;
     Ok(Call::Reset { width, height })
 }
 
+// All parts of an opening.
 fn read_open<D>(words: &mut Words<'_>) -> Result<Call<D>, Reason>
-    ensures { λ r. ⌜ Cases r (λ call. (props : LayerProps) × (filter : Option FilterData) × (call ≡ Open props filter) × (openOf (props .opacity) (left (now (words .entry))) ≡ Some ((props, filter), (left (now (words .exit)))))) (λ _. Unit {0}) ⌝ }
+    ensures { λ r. ⌜ Cases r (λ call. (props : LayerProps) × (filter : Option FilterData) × (call ≡ Open props filter) × (openOf (props .opacity) (left (now (words .entry))) ≡ Some ((props, filter), left (now (words .exit))))) (λ _. Unit {0}) ⌝ }
 {
     let props = read_props(words)?;
     let filter = read_filter(words)?;
     Ok(Call::Open { props, filter })
 }
 
+// The call of a line that begins with `word`.
 fn read_call<D: DrawLine>(word: &str, words: &mut Words<'_>) -> Result<Call<D>, Reason>
     ensures { λ r. ⌜ Cases r (λ call. Says Written (now (word .entry)) (left (now (words .entry))) call (left (now (words .exit)))) (λ _. Unit {0}) ⌝ }
 {
@@ -94,6 +99,7 @@ fn read_call<D: DrawLine>(word: &str, words: &mut Words<'_>) -> Result<Call<D>, 
     }
 }
 
+// What a line says that begins with `word`, and perhaps more words after it.
 fn read_parts<D: DrawLine>(word: &str, words: &mut Words<'_>) -> Result<Entry<D>, Reason>
     ensures { λ r. ⌜ Cases r (λ entry. SaysEntry Written (now (word .entry)) (left (now (words .entry))) entry (left (now (words .exit)))) (λ _. Unit {0}) ⌝ }
 {
@@ -107,7 +113,7 @@ fn read_parts<D: DrawLine>(word: &str, words: &mut Words<'_>) -> Result<Entry<D>
 
 // The words of a line that says something: not of one without a word, nor of a comment.
 pub fn words_of(bytes: &[u8]) -> Result<Option<(&str, Words<'_>)>, Reason>
-    ensures { λ r. ⌜ Cases r (λ line. Utf8 (now (bytes .entry)) × BySome line (PassedOver (wordsOf (now (bytes .entry)))) (λ p. ((wordsOf (now (bytes .entry))) ≡ now (p .0) ∷ left (p .1)) × (getD (now (p .0)) 0 0 ≡ 35 → ⊥))) (λ _. Utf8 (now (bytes .entry)) → ⊥) ⌝ }
+    ensures { λ r. ⌜ Cases r (λ line. Utf8 (now (bytes .entry)) × BySome line (PassedOver (wordsOf (now (bytes .entry)))) (λ p. (wordsOf (now (bytes .entry)) ≡ now (p .0) ∷ left (p .1)) × (getD (now (p .0)) 0 0 ≡ 35 → ⊥))) (λ _. Utf8 (now (bytes .entry)) → ⊥) ⌝ }
 {
     let Ok(text) = std::str::from_utf8(bytes) else {
         return Err(Reason::NotText);

@@ -66,7 +66,7 @@ pub impl fmt::Display for Fault as FaultDisplay {
 }
 
 // Why a script was not read.
-#[derive(Clone, Copy, Debug, PartialEq, Eq)]
+#[derive(Clone, Copy)]
 pub enum Unread {
     Faulty(Fault),
     NoMemory,

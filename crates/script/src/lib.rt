@@ -6,6 +6,7 @@ pub mod fault;
 mod lines;
 mod numbers;
 mod open;
+mod parts;
 pub mod script;
 pub mod sheet;
 #[cfg(test)]

@@ -1,8 +1,8 @@
 // The opening of a layer, as a script writes it. Its parts stand in one order, and each may be left out.
 ghost use Rattle.script.specs.Parts.{left, Reads, ReadsWith, opacityOf, maskOf, pathOf, clipOf, propsOf, paddingOf, filterOf};
-use crate::draw_line::read_mode;
-use crate::draw_line::read_rect;
 use crate::fault::Reason;
+use crate::parts::read_mode;
+use crate::parts::read_rect;
 use crate::words::Words;
 use draws::blend::BlendMode;
 use filter::data::FilterData;
@@ -11,7 +11,7 @@ use record::props::LayerClip;
 use record::props::LayerProps;
 use record::props::StripRange;
 
-// Full opacity where none is written.
+// `[opacity F]`, full opacity where it is left out
 fn read_opacity(words: &mut Words<'_>) -> Result<f32, Reason>
     ensures { λ r. ⌜ ReadsWith opacityOf (λ o. o) (left (now (words .entry))) r (left (now (words .exit))) ⌝ }
 {
@@ -27,6 +27,7 @@ fn read_opacity(words: &mut Words<'_>) -> Result<f32, Reason>
     }
 }
 
+// `[mask N]`
 fn read_mask(words: &mut Words<'_>) -> Result<Option<u32>, Reason>
     ensures { λ r. ⌜ Reads maskOf (left (now (words .entry))) r (left (now (words .exit))) ⌝ }
 {
@@ -36,7 +37,7 @@ fn read_mask(words: &mut Words<'_>) -> Result<Option<u32>, Reason>
     Ok(Some(words.number32()?))
 }
 
-// The strips of a clip path and the list that holds them; none of list 0 where none is written.
+// `[path START END THREAD]`, no strip of list 0 where it is left out
 fn read_path(words: &mut Words<'_>) -> Result<(StripRange, u8), Reason>
     ensures { λ r. ⌜ Reads pathOf (left (now (words .entry))) r (left (now (words .exit))) ⌝ }
 {
@@ -49,6 +50,7 @@ fn read_path(words: &mut Words<'_>) -> Result<(StripRange, u8), Reason>
     Ok((StripRange { start, end }, thread_idx))
 }
 
+// `[clip X0 Y0 X1 Y1 [path START END THREAD]]`
 fn read_clip(words: &mut Words<'_>) -> Result<Option<LayerClip>, Reason>
     ensures { λ r. ⌜ Reads clipOf (left (now (words .entry))) r (left (now (words .exit))) ⌝ }
 {
@@ -64,6 +66,7 @@ fn read_clip(words: &mut Words<'_>) -> Result<Option<LayerClip>, Reason>
     }))
 }
 
+// All but the filter. The default mode where none is written.
 pub fn read_props(words: &mut Words<'_>) -> Result<LayerProps, Reason>
     ensures { λ r. ⌜ ReadsWith propsOf (λ props. props .opacity) (left (now (words .entry))) r (left (now (words .exit))) ⌝ }
 {
@@ -79,6 +82,7 @@ pub fn read_props(words: &mut Words<'_>) -> Result<LayerProps, Reason>
     })
 }
 
+// `LEFT TOP RIGHT BOTTOM`
 fn read_padding(words: &mut Words<'_>) -> Result<PaddingU16, Reason>
     ensures { λ r. ⌜ Reads paddingOf (left (now (words .entry))) r (left (now (words .exit))) ⌝ }
 {
@@ -89,6 +93,7 @@ fn read_padding(words: &mut Words<'_>) -> Result<PaddingU16, Reason>
     Ok(PaddingU16::new(left, top, right, bottom))
 }
 
+// `[filter N pad L T R B source L T R B]`
 pub fn read_filter(words: &mut Words<'_>) -> Result<Option<FilterData>, Reason>
     ensures { λ r. ⌜ Reads filterOf (left (now (words .entry))) r (left (now (words .exit))) ⌝ }
 {

@@ -52,6 +52,7 @@ fn line_kind(bytes: &[u8]) -> Option<Kind>
     Some(read_kind(&mut words).unwrap_or(Kind::Fill))
 }
 
+// Fills where no line is left that is not passed over.
 fn sheet_kind(bytes: &[u8]) -> Kind
     ensures { λ r. ⌜ GivesKind (linesOf (now (bytes .entry))) r ⌝ }
 {
@@ -80,6 +81,7 @@ fn checked_entry<D: DrawLine>(
     }
 }
 
+// Adds what a line says to the sheet.
 fn read_line<D: DrawLine>(sheet: &mut Sheet<D>, line: TextLine<'_>) -> Result<(), Unread>
     ensures { λ r. ⌜ Cases r (λ _. LineLeads Written (viewOf (now (sheet .entry))) (line .entry .number) (line .entry .bytes .now) (viewOf (now (sheet .exit)))) (λ unread. FaultOf (line .entry .number) unread) ⌝ }
 {
@@ -94,6 +96,7 @@ fn read_line<D: DrawLine>(sheet: &mut Sheet<D>, line: TextLine<'_>) -> Result<()
     Ok(())
 }
 
+// The sheet as its lines give it, one after another.
 fn read_sheet<D: DrawLine>(heap: Global, bytes: &[u8]) -> Result<Sheet<D>, Unread>
     ensures { λ r. ⌜ Cases r (λ sheet. Leads Written start 0 (linesOf (now (bytes .entry))) (viewOf sheet)) (λ unread. Stopped Written (linesOf (now (bytes .entry))) unread) ⌝ }
 {
@@ -104,7 +107,8 @@ fn read_sheet<D: DrawLine>(heap: Global, bytes: &[u8]) -> Result<Sheet<D>, Unrea
     Ok(sheet)
 }
 
-// The sheet that the script asks for, or the first line that is faulty.
+// The sheet that the script asks for, or the first line that is faulty. Each line is read once, but for those before
+// the first that has a meaning, which are looked at for the kind of the sheet as well.
 pub fn read_script(heap: Global, bytes: &[u8]) -> Result<Script, Unread>
     ensures { λ r. ⌜ Cases r (λ script. Whole (linesOf (now (bytes .entry))) script) (λ unread. Failed (linesOf (now (bytes .entry))) unread) ⌝ }
 {

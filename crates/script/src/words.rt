@@ -59,7 +59,7 @@ impl<'a> Words<'a> {
 
     // Takes the next word where it is `word`, and leaves it otherwise. Answers whether it took it.
     pub fn take(&mut self, word: &str) -> bool
-        ensures { λ r. ⌜ When r (following (now (word .entry)) (left (now (self .entry))) ≡ Some (left (now (self .exit)))) ((following (now (word .entry)) (left (now (self .entry))) ≡ None) × ((left (now (self .exit))) ≡ (left (now (self .entry))))) ⌝ }
+        ensures { λ r. ⌜ When r (following (now (word .entry)) (left (now (self .entry))) ≡ Some (left (now (self .exit)))) ((following (now (word .entry)) (left (now (self .entry))) ≡ None) × (left (now (self .exit)) ≡ left (now (self .entry)))) ⌝ }
     {
         let mut ahead = *self;
         let Some(next) = ahead.next_word() else {
@@ -74,7 +74,7 @@ impl<'a> Words<'a> {
 
     // Nothing may follow.
     pub fn end(&mut self) -> Result<(), Reason>
-        ensures { λ r. ⌜ Cases r (λ _. (left (now (self .entry))) ≡ []) (λ _. (left (now (self .entry))) ≡ [] → ⊥) ⌝ }
+        ensures { λ r. ⌜ Cases r (λ _. left (now (self .entry)) ≡ []) (λ _. left (now (self .entry)) ≡ [] → ⊥) ⌝ }
     {
         match self.next_word() {
             Some(_) => Err(Reason::SurplusWord),

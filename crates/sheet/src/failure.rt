@@ -1,13 +1,12 @@
 // Why the program ends with status 1.
 use script::fault::Fault;
-use script::fault::FaultDebug;
 use script::fault::FaultDisplay;
 use script::fault::Unread;
 use std::alloc::AllocError;
 use std::fmt;
 use std::io;
 
-#[derive(Debug, Drop)]
+#[derive(Drop)]
 pub enum Failure {
     Faulty(Fault),
     NoMemory,

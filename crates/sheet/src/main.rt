@@ -2,6 +2,7 @@
 mod answer;
 mod failure;
 mod report;
+mod run;
 mod shown;
 mod stage;
 
@@ -10,17 +11,17 @@ use failure::FailureDisplay;
 use failure::FailureFromAlloc;
 use failure::FailureFromIo;
 use failure::FailureFromUnread;
+use run::run_sheet;
 use script::draw_line::FillDrawLine;
 use script::draw_line::RunDrawLine;
 use script::script::Script;
 use script::script::read_script;
-use stage::run_sheet;
 use std::io::BufWriter;
 use std::io::Read;
 use std::io::Write;
 
 // Every fault of the script is found before its first call is made.
-fn run(rt: &LibcRuntime) -> Result<(), Failure> {
+fn run_script(rt: &LibcRuntime) -> Result<(), Failure> {
     let heap = rt.alloc();
     let mut bytes = Vec::new(heap);
     rt.stdin().read_to_end(&mut bytes)?;
@@ -35,7 +36,7 @@ fn run(rt: &LibcRuntime) -> Result<(), Failure> {
 }
 
 fn main(rt: LibcRuntime) -> Result<(), Failure> {
-    match run(&rt) {
+    match run_script(&rt) {
         Ok(()) => Ok(()),
         Err(failure) => {
             eprintln!(rt, "{failure}")?;

@@ -1,4 +1,8 @@
 // The recording, as `report` prints it.
+ghost use mathlib.Core.Path.{_≡_};
+ghost use mathlib.Core.Bool.{not};
+ghost use lib.Dec.{T};
+ghost use lib.Ieee.{binary32, isNan, toBits};
 use crate::shown::Shown;
 use crate::shown::ShownClip;
 use crate::shown::ShownMask;
@@ -10,6 +14,7 @@ use crate::shown::ShownSize;
 use crate::shown::ShownSizeOrNone;
 use filter::data::FilterData;
 use filter::placement::FilterLayerPlacement;
+use geometry::rect::RectU16;
 use record::layer::RecordedLayer;
 use record::layer::RecordedLayerKind;
 use record::node::Node;
@@ -61,7 +66,7 @@ impl fmt::Display for Numbers<'_> as NumbersDisplay {
 struct FilterPart {
     data: FilterData,
     placement: FilterLayerPlacement,
-    layer: RecordedLayer,
+    bbox: RectU16,
 }
 
 impl fmt::Display for FilterPart as FilterPartDisplay {
@@ -70,7 +75,7 @@ impl fmt::Display for FilterPart as FilterPartDisplay {
         let pad = Shown(self.data.filter_padding);
         let source = Shown(self.data.source_padding);
         write!(f, "filter {filter} pad {pad} source {source}")?;
-        let bbox = Shown(self.layer.bbox);
+        let bbox = Shown(self.bbox);
         let dest = Shown(self.placement.dest_bbox());
         let (x, y) = self.placement.src_origin();
         write!(f, " box {bbox} dest {dest} origin {x} {y}")
@@ -95,7 +100,7 @@ impl fmt::Display for KindPart as KindPartDisplay {
                 let part = FilterPart {
                     data: filter_data,
                     placement,
-                    layer: self.0,
+                    bbox: self.0.bbox,
                 };
                 write!(f, "{part}")
             }
@@ -104,7 +109,9 @@ impl fmt::Display for KindPart as KindPartDisplay {
 }
 
 // The bits of an opacity. A recorded opacity is a number from 0 to 1.
-fn opacity_bits(opacity: f32) -> u32 {
+fn opacity_bits(opacity: f32) -> u32
+    ensures { λ r. ⌜ (T (not (isNan opacity)) → r ≡ toBits binary32 opacity) ⌝ }
+{
     if opacity.is_nan() {
         0
     } else {

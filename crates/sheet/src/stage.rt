@@ -1,26 +1,18 @@
 // A recorder and the lists that its calls are made on.
 ghost use mathlib.Core.Path.{_≡_};
-ghost use Prim.Native.Nat.{ℕ, _+_, _*_, min};
+ghost use Prim.Native.Nat.{ℕ, min};
 ghost use Rattle.std.specs.Of.Vec.{vec-items, vec-len};
 ghost use Rattle.std.specs.Options.{valueOr};
+ghost use Rattle.std.specs.Vec.{made};
 ghost use Rattle.std.specs.declared.option.Option.the-variants.{Some};
 ghost use Rattle.refusal.specs.Refusals.{Answers};
 ghost use Rattle.record.specs.Account.{closeQuestions};
 ghost use Rattle.record.specs.Pushed.{Pushed};
 ghost use Rattle.record.specs.Recording.{recording, drawQuestions, resetQuestions, afterReset, openQuestions, afterOpening, afterClosing, innermostKind, active};
+ghost use Rattle.walk.specs.FullWalk.{listed, entryCount, walkQuestions};
 ghost use Rattle.script.specs.Sheets.{drawLines};
 ghost use Rattle.sheet.specs.declared.answer.Answer.the-variants.{Reset, Draw, Enter, Leave};
 use crate::answer::Answer;
-use crate::answer::AnswerDisplay;
-use crate::answer::Refused;
-use crate::answer::RefusedDisplay;
-use crate::answer::Walked;
-use crate::answer::WalkedDisplay;
-use crate::failure::Failure;
-use crate::failure::FailureFromAlloc;
-use crate::failure::FailureFromIo;
-use crate::report::Report;
-use crate::report::ReportDisplay;
 use draws::strip::Strip;
 use draws::tagged::Tagged;
 use draws::tagged::TaggedClone;
@@ -30,19 +22,15 @@ use record::account::MAX_DRAWS;
 use record::props::LayerProps;
 use record::recorder::CommandRecorder;
 use refusal::Refusal;
-use script::call::Call;
-use script::call::Line;
 use script::draw_line::DrawLine;
 use script::sheet::Sheet;
 use std::alloc::AllocError;
 use std::alloc::Global;
-use std::io;
-use std::io::Write;
 use walk::full::full_walk;
 use walk::listed::Listed;
 
 #[derive(Drop)]
-struct Stage<'a, D> {
+pub struct Stage<'a, D> {
     heap: Global,
     recorder: CommandRecorder,
     draws: Vec<Tagged<D>>,
@@ -62,7 +50,7 @@ fn draw_places<D>(sheet: &Sheet<D>) -> usize
 }
 
 impl<'a, D: DrawLine> Stage<'a, D> {
-    fn new(heap: Global, sheet: &'a Sheet<D>) -> Result<Stage<'a, D>, AllocError> {
+    pub fn new(heap: Global, sheet: &'a Sheet<D>) -> Result<Stage<'a, D>, AllocError> {
         let blank = Tagged {
             draw: D::blank(),
             line: 0,
@@ -75,14 +63,14 @@ impl<'a, D: DrawLine> Stage<'a, D> {
         })
     }
 
-    fn reset(&mut self, width: u16, height: u16) -> Result<Answer, Refusal>
-        ensures { λ r. ⌜ Answers (resetQuestions width height) r (λ a. (a ≡ Reset ((recording (now (self .exit) .recorder)) .account .scene)) × ((recording (now (self .exit) .recorder)) ≡ afterReset width height)) (now (self .exit) .recorder ≡ now (self .entry) .recorder) ⌝ }
+    pub fn reset(&mut self, width: u16, height: u16) -> Result<Answer, Refusal>
+        ensures { λ r. ⌜ Answers (resetQuestions width height) r (λ a. (a ≡ Reset (recording (now (self .exit) .recorder) .account .scene)) × (recording (now (self .exit) .recorder) ≡ afterReset width height)) (now (self .exit) .recorder ≡ now (self .entry) .recorder) ⌝ }
     {
         self.recorder.reset(width, height)?;
         Ok(Answer::Reset(self.recorder.scene_size()))
     }
 
-    fn draw(&mut self, draw: D, line: u32) -> Result<Answer, Refusal>
+    pub fn draw(&mut self, draw: D, line: u32) -> Result<Answer, Refusal>
         ensures { λ r. ⌜ Answers (drawQuestions (vec-len (now (self .entry) .draws)) (recording (now (self .entry) .recorder))) r (λ a. (n : ℕ) × (a ≡ Draw n) × Pushed n (record { draw = draw; line = line }) (D·Drawable .boxOf draw (now (self .entry) .strips .now)) (D·Drawable .modeOf draw) (recording (now (self .entry) .recorder)) (recording (now (self .exit) .recorder)) (vec-items (now (self .entry) .draws)) (vec-items (now (self .exit) .draws))) (now (self .exit) .recorder ≡ now (self .entry) .recorder) ⌝ }
     {
         let tagged = Tagged { draw, line };
@@ -91,15 +79,15 @@ impl<'a, D: DrawLine> Stage<'a, D> {
         Ok(Answer::Draw(number))
     }
 
-    fn open(&mut self, props: LayerProps, filter: Option<FilterData>) -> Result<Answer, Refusal>
-        ensures { λ r. ⌜ Answers (openQuestions props filter (recording (now (self .entry) .recorder))) r (λ a. (a ≡ Enter ((recording (now (self .entry) .recorder)) .account .layers)) × ((recording (now (self .exit) .recorder)) ≡ afterOpening props filter (recording (now (self .entry) .recorder)))) (now (self .exit) .recorder ≡ now (self .entry) .recorder) ⌝ }
+    pub fn open(&mut self, props: LayerProps, filter: Option<FilterData>) -> Result<Answer, Refusal>
+        ensures { λ r. ⌜ Answers (openQuestions props filter (recording (now (self .entry) .recorder))) r (λ a. (a ≡ Enter (recording (now (self .entry) .recorder) .account .layers)) × (recording (now (self .exit) .recorder) ≡ afterOpening props filter (recording (now (self .entry) .recorder)))) (now (self .exit) .recorder ≡ now (self .entry) .recorder) ⌝ }
     {
         let layer = self.recorder.push_layer(props, filter)?;
         Ok(Answer::Enter(layer))
     }
 
-    fn close(&mut self) -> Result<Answer, Refusal>
-        ensures { λ r. ⌜ Answers (closeQuestions ((recording (now (self .entry) .recorder)) .account)) r (λ a. (layer : ℕ) × (active (recording (now (self .entry) .recorder)) ≡ Some layer) × (a ≡ Leave layer (innermostKind ((recording (now (self .entry) .recorder)) .account .opened))) × ((recording (now (self .exit) .recorder)) ≡ afterClosing (recording (now (self .entry) .recorder)))) (now (self .exit) .recorder ≡ now (self .entry) .recorder) ⌝ }
+    pub fn close(&mut self) -> Result<Answer, Refusal>
+        ensures { λ r. ⌜ Answers (closeQuestions (recording (now (self .entry) .recorder) .account)) r (λ a. (layer : ℕ) × (active (recording (now (self .entry) .recorder)) ≡ Some layer) × (a ≡ Leave layer (innermostKind (recording (now (self .entry) .recorder) .account .opened))) × (recording (now (self .exit) .recorder) ≡ afterClosing (recording (now (self .entry) .recorder)))) (now (self .exit) .recorder ≡ now (self .entry) .recorder) ⌝ }
     {
         let Some(layer) = self.recorder.active_layer() else {
             return Err(Refusal::NoLayerOpen);
@@ -108,9 +96,10 @@ impl<'a, D: DrawLine> Stage<'a, D> {
         Ok(Answer::Leave(layer, kind))
     }
 
-    // A walk lists each draw once and each layer twice, so that further places stay as they are.
+    // How many places the list of a walk gets: as many as there is room for, or just enough.
+    // A walk lists each draw once and each layer twice, so that further places are never written.
     fn walk_places(&self, room: Option<u32>) -> usize
-        ensures { λ r. ⌜ r ≡ min ((recording (now (self .entry) .recorder)) .account .drawn + 2 * (recording (now (self .entry) .recorder)) .account .layers) (valueOr room ((recording (now (self .entry) .recorder)) .account .drawn + 2 * (recording (now (self .entry) .recorder)) .account .layers)) ⌝ }
+        ensures { λ r. ⌜ r ≡ min (entryCount (recording (now (self .entry) .recorder))) (valueOr room (entryCount (recording (now (self .entry) .recorder)))) ⌝ }
     {
         let entries = self.recorder.draw_count() as usize
             + 2 * self.recorder.layer_count() as usize;
@@ -120,76 +109,23 @@ impl<'a, D: DrawLine> Stage<'a, D> {
         }
     }
 
-    fn print_walk<W: Write>(
-        &self,
-        out: &mut W,
-        line: u32,
-        room: Option<u32>,
-    ) -> Result<(), Failure> {
+    // The full walk, into a list of `room` places or of just enough.
+    pub fn walk(&self, room: Option<u32>) -> Result<Result<Vec<Listed>, Refusal>, AllocError>
+        ensures { λ r. ⌜ made r (λ walked. Answers (walkQuestions (recording (now (self .entry) .recorder)) (valueOr room (entryCount (recording (now (self .entry) .recorder))))) walked (λ entries. vec-items entries ≡ listed (recording (now (self .entry) .recorder))) (Unit {0})) ⌝ }
+    {
         let mut entries = vec![in self.heap; Listed::Draw(0); self.walk_places(room)]?;
         match full_walk(&self.recorder, entries.as_mut_slice()) {
             Ok(count) => {
                 entries.truncate(count);
-                let walked = Walked(entries.as_slice());
-                writeln!(out, "{line} {walked}")?;
+                Ok(Ok(entries))
             }
-            Err(refusal) => {
-                let refused = Refused(refusal);
-                writeln!(out, "{line} {refused}")?;
-            }
-        }
-        Ok(())
-    }
-
-    fn print_report<W: Write>(&self, out: &mut W, line: u32) -> io::Result<()> {
-        let report = Report {
-            line,
-            recorder: &self.recorder,
-        };
-        writeln!(out, "{report}")
-    }
-
-    // Makes a line's call, and prints what it answers.
-    fn make<W: Write>(&mut self, out: &mut W, line: &Line<D>) -> Result<(), Failure> {
-        let number = line.number;
-        match line.call {
-            Call::Reset { width, height } => {
-                print_answer(out, number, self.reset(width, height))?;
-            }
-            Call::Draw(Ok(draw)) => print_answer(out, number, self.draw(draw, number))?,
-            Call::Draw(Err(refusal)) => print_answer(out, number, Err(refusal))?,
-            Call::Open { props, filter } => print_answer(out, number, self.open(props, filter))?,
-            Call::Close => print_answer(out, number, self.close())?,
-            Call::Walk { room } => self.print_walk(out, number, room)?,
-            Call::Report => self.print_report(out, number)?,
-        }
-        Ok(())
-    }
-}
-
-fn print_answer<W: Write>(
-    out: &mut W,
-    line: u32,
-    answer: Result<Answer, Refusal>,
-) -> io::Result<()> {
-    match answer {
-        Ok(answer) => writeln!(out, "{line} {answer}"),
-        Err(refusal) => {
-            let refused = Refused(refusal);
-            writeln!(out, "{line} {refused}")
+            Err(refusal) => Ok(Err(refusal)),
         }
     }
-}
 
-// Makes the calls of a sheet one after another on a new recorder.
-pub fn run_sheet<D: DrawLine, W: Write>(
-    heap: Global,
-    sheet: &Sheet<D>,
-    out: &mut W,
-) -> Result<(), Failure> {
-    let mut stage = Stage::new(heap, sheet)?;
-    for line in sheet.lines.iter() {
-        stage.make(out, line)?;
+    pub fn recorder(&self) -> &CommandRecorder
+        ensures { λ r. ⌜ now r ≡ now (self .entry) .recorder ⌝ }
+    {
+        &self.recorder
     }
-    Ok(())
 }
