@@ -4,14 +4,14 @@ use Rattle.tiles.specs.TileSteps.{past_holder}
 use Rattle.tiles.proofs.Surfaces.{past-here, past_next}
 use Rattle.tiles.proofs.surface.past_holder.Goals as goal
 
-pub returns-then-same-owner : goal.returns-then-same-owner
-returns-then-same-owner c =
-    let e = past-here c.args.layer c.args.nodes.now c.loop-i.i c.loop-i-test.true (sym c.same-owner.ensures ∙ c.if-same-owner.true) in
+pub returns-then-same_owner : goal.returns-then-same_owner
+returns-then-same_owner c =
+    let e = past-here c.args.layer c.args.nodes.now c.loop-i.i c.loop-i-test.true (sym c.same_owner.ensures ∙ c.if-same_owner.true) in
     omega (arith, c.loop-i.invariant)
 
 pub loop-i-preserved : goal.loop-i-preserved
 loop-i-preserved c =
-    let e = past_next c.args.layer c.args.nodes.now c.loop-i.i c.loop-i-test.true (sym c.same-owner.ensures ∙ c.if-same-owner.false) in
+    let e = past_next c.args.layer c.args.nodes.now c.loop-i.i c.loop-i-test.true (sym c.same_owner.ensures ∙ c.if-same_owner.false) in
     omega (arith, c.loop-i.invariant)
 
 pub returns : goal.returns

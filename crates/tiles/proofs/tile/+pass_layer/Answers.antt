@@ -10,14 +10,14 @@ bounds-nodes-i t c =
     let h = here c.args.nodes.now c.loop-owner.i c.args.owner (sym c.loop-owner-test.ensures) in
     h.below
 
-pub overflow-sub-depth : goal.overflow-sub-depth
-overflow-sub-depth t c =
+pub overflow_sub-depth : goal.overflow_sub-depth
+overflow_sub-depth t c =
     let h = here c.args.nodes.now c.loop-owner.i c.args.owner (sym c.loop-owner-test.ensures) in
     let z = ap holding c.in-Some.is in
     omega (arith, h.holds, c.loop-owner.invariant.stretch.fewer)
 
-pub pass-layer-i-requires : goal.pass-layer-i-requires
-pass-layer-i-requires t c =
+pub pass_layer-i-requires : goal.pass_layer-i-requires
+pass_layer-i-requires t c =
     let h = here c.args.nodes.now c.loop-owner.i c.args.owner (sym c.loop-owner-test.ensures) in
     let z = ap holding c.in-Some.is in
     let f = c.loop-owner.invariant.stretch.fewer in
@@ -28,7 +28,7 @@ pub loop-owner-preserved-in-Some : goal.loop-owner-preserved-in-Some
 loop-owner-preserved-in-Some t c =
     let h = here c.args.nodes.now c.loop-owner.i c.args.owner (sym c.loop-owner-test.ensures) in
     passed_then c.args.nodes.now c.args.owner c.loop-owner.invariant
-    (passed-layer c.args.nodes.now c.args.owner c.loop-owner.i _ h.more h.below h.own c.in-Some.layer c.pass-layer-i.result c.in-Some.is c.pass-layer-i.ensures.passed c.pass-layer-i.ensures.stopped)
+    (passed-layer c.args.nodes.now c.args.owner c.loop-owner.i _ h.more h.below h.own c.in-Some.layer c.pass_layer-i.result c.in-Some.is c.pass_layer-i.ensures.passed c.pass_layer-i.ensures.stopped)
 
 pub loop-owner-smaller : goal.loop-owner-smaller
 loop-owner-smaller t c =
@@ -39,4 +39,4 @@ pub loop-owner-preserved : goal.loop-owner-preserved
 loop-owner-preserved t c =
     let h = here c.args.nodes.now c.loop-owner.i c.args.owner (sym c.loop-owner-test.ensures) in
     passed_then c.args.nodes.now c.args.owner c.loop-owner.invariant
-    (passed-draws c.args.nodes.now c.args.owner c.loop-owner.i _ h.more h.below h.own c.in-default.is)
+    (passed-draws c.args.nodes.now c.args.owner c.loop-owner.i _ h.more h.below h.own c.in_default.is)

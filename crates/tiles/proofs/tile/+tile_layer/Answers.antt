@@ -19,8 +19,8 @@ bounds-nodes-i g t c =
     let h = here c.args.nodes.now c.loop-tile.i c.args.owner (sym c.loop-tile-test.ensures) in
     h.below
 
-pub add-draws-tally-requires : goal.add-draws-tally-requires
-add-draws-tally-requires g t c =
+pub add_draws-tally-requires : goal.add_draws-tally-requires
+add_draws-tally-requires g t c =
     let h = here c.args.nodes.now c.loop-tile.i c.args.owner (sym c.loop-tile-test.ensures) in
     let seen = draw_shows (λ d. g.D.Drawable.box_of d c.args.strips.now) c.args.tile c.args.draws.now in
     let shows = layer_shows c.args.tile c.args.layers.now in
@@ -34,25 +34,25 @@ add-entered-requires g t c =
     let shows = layer_shows c.args.tile c.args.layers.now in
     let before = sifted-rooms seen shows c.args.nodes.now c.args.owner c.loop-tile.invariant in
     let x = get_or c.args.nodes.now c.loop-tile.i blank in
-    let drawn = drawn-count seen x.start (x.end - x.start) c.add-draws-tally.ensures in
+    let drawn = drawn-count seen x.start (x.end - x.start) c.add_draws-tally.ensures in
     let z = ap holding c.in-Some.is in
     omega (arith, h.rooms)
 
-pub overflow-sub-depth : goal.overflow-sub-depth
-overflow-sub-depth g t c =
+pub overflow_sub-depth : goal.overflow_sub-depth
+overflow_sub-depth g t c =
     let h = here c.args.nodes.now c.loop-tile.i c.args.owner (sym c.loop-tile-test.ensures) in
     let z = ap holding c.in-Some.is in
     let fewer = c.loop-tile.invariant.stretch.fewer in
     omega (arith, h.holds)
 
-pub tile-layer-inner-requires : goal.tile-layer-inner-requires
-tile-layer-inner-requires g t c κs within =
+pub tile_layer-inner-requires : goal.tile_layer-inner-requires
+tile_layer-inner-requires g t c κs within =
     let h = here c.args.nodes.now c.loop-tile.i c.args.owner (sym c.loop-tile-test.ensures) in
     let seen = draw_shows (λ d. g.D.Drawable.box_of d c.args.strips.now) c.args.tile c.args.draws.now in
     let shows = layer_shows c.args.tile c.args.layers.now in
     let before = sifted-rooms seen shows c.args.nodes.now c.args.owner c.loop-tile.invariant in
     let x = get_or c.args.nodes.now c.loop-tile.i blank in
-    let drawn = drawn-count seen x.start (x.end - x.start) c.add-draws-tally.ensures in
+    let drawn = drawn-count seen x.start (x.end - x.start) c.add_draws-tally.ensures in
     let z = ap holding c.in-Some.is in
     let fewer = c.loop-tile.invariant.stretch.fewer in
     let entered = added-count c.add-entered.ensures in
@@ -66,10 +66,10 @@ add-tally-requires g t c =
     let shows = layer_shows c.args.tile c.args.layers.now in
     let before = sifted-rooms seen shows c.args.nodes.now c.args.owner c.loop-tile.invariant in
     let x = get_or c.args.nodes.now c.loop-tile.i blank in
-    let drawn = drawn-count seen x.start (x.end - x.start) c.add-draws-tally.ensures in
+    let drawn = drawn-count seen x.start (x.end - x.start) c.add_draws-tally.ensures in
     let z = ap holding c.in-Some.is in
     let entered = added-count c.add-entered.ensures in
-    let inside = sifted-rooms seen shows c.args.nodes.now (Some c.in-Some.layer) c.tile-layer-inner.ensures.sifted in
+    let inside = sifted-rooms seen shows c.args.nodes.now (Some c.in-Some.layer) c.tile_layer-inner.ensures.sifted in
     omega (arith, h.rooms)
 
 pub loop-tile-preserved-in-Through : goal.loop-tile-preserved-in-Through
@@ -78,7 +78,7 @@ loop-tile-preserved-in-Through g t c =
     let seen = draw_shows (λ d. g.D.Drawable.box_of d c.args.strips.now) c.args.tile c.args.draws.now in
     let shows = layer_shows c.args.tile c.args.layers.now in
     sifted-then seen shows c.args.nodes.now c.args.owner c.loop-tile.invariant
-    (sifted-through seen shows c.args.nodes.now c.args.owner c.loop-tile.i _ h.more h.below h.own c.add-draws-tally.ensures c.in-Some.layer c.tile-layer-inner.result.node c.in-Some.is (sym c.in-Through.ensures) c.add-entered.ensures c.tile-layer-inner.ensures.sifted c.add-tally.ensures c.tile-layer-inner.ensures.stopped)
+    (sifted-through seen shows c.args.nodes.now c.args.owner c.loop-tile.i _ h.more h.below h.own c.add_draws-tally.ensures c.in-Some.layer c.tile_layer-inner.result.node c.in-Some.is (sym c.in-Through.ensures) c.add-entered.ensures c.tile_layer-inner.ensures.sifted c.add-tally.ensures c.tile_layer-inner.ensures.stopped)
 
 pub add-tally-requires-in-Placed : goal.add-tally-requires-in-Placed
 add-tally-requires-in-Placed g t c =
@@ -87,19 +87,19 @@ add-tally-requires-in-Placed g t c =
     let shows = layer_shows c.args.tile c.args.layers.now in
     let before = sifted-rooms seen shows c.args.nodes.now c.args.owner c.loop-tile.invariant in
     let x = get_or c.args.nodes.now c.loop-tile.i blank in
-    let drawn = drawn-count seen x.start (x.end - x.start) c.add-draws-tally.ensures in
+    let drawn = drawn-count seen x.start (x.end - x.start) c.add_draws-tally.ensures in
     let z = ap holding c.in-Some.is in
     omega (arith, h.rooms)
 
-pub overflow-sub-depth-in-Placed : goal.overflow-sub-depth-in-Placed
-overflow-sub-depth-in-Placed g t c =
+pub overflow_sub-depth-in-Placed : goal.overflow_sub-depth-in-Placed
+overflow_sub-depth-in-Placed g t c =
     let h = here c.args.nodes.now c.loop-tile.i c.args.owner (sym c.loop-tile-test.ensures) in
     let z = ap holding c.in-Some.is in
     let fewer = c.loop-tile.invariant.stretch.fewer in
     omega (arith, h.holds)
 
-pub pass-layer-i-requires : goal.pass-layer-i-requires
-pass-layer-i-requires g t c =
+pub pass_layer-i-requires : goal.pass_layer-i-requires
+pass_layer-i-requires g t c =
     let h = here c.args.nodes.now c.loop-tile.i c.args.owner (sym c.loop-tile-test.ensures) in
     let z = ap holding c.in-Some.is in
     let fewer = c.loop-tile.invariant.stretch.fewer in
@@ -111,17 +111,17 @@ loop-tile-preserved-in-Placed g t c =
     let seen = draw_shows (λ d. g.D.Drawable.box_of d c.args.strips.now) c.args.tile c.args.draws.now in
     let shows = layer_shows c.args.tile c.args.layers.now in
     sifted-then seen shows c.args.nodes.now c.args.owner c.loop-tile.invariant
-    (sifted-over seen shows c.args.nodes.now c.args.owner c.loop-tile.i _ h.more h.below h.own c.add-draws-tally.ensures c.in-Some.layer c.pass-layer-i.result Placed c.in-Some.is (sym c.in-Placed.ensures) refl c.add-tally-in-Placed.ensures c.pass-layer-i.ensures.passed c.pass-layer-i.ensures.stopped)
+    (sifted-over seen shows c.args.nodes.now c.args.owner c.loop-tile.i _ h.more h.below h.own c.add_draws-tally.ensures c.in-Some.layer c.pass_layer-i.result Placed c.in-Some.is (sym c.in-Placed.ensures) refl c.add-tally-in-Placed.ensures c.pass_layer-i.ensures.passed c.pass_layer-i.ensures.stopped)
 
-pub overflow-sub-depth-in-Hidden : goal.overflow-sub-depth-in-Hidden
-overflow-sub-depth-in-Hidden g t c =
+pub overflow_sub-depth-in-Hidden : goal.overflow_sub-depth-in-Hidden
+overflow_sub-depth-in-Hidden g t c =
     let h = here c.args.nodes.now c.loop-tile.i c.args.owner (sym c.loop-tile-test.ensures) in
     let z = ap holding c.in-Some.is in
     let fewer = c.loop-tile.invariant.stretch.fewer in
     omega (arith, h.holds)
 
-pub pass-layer-i-requires-in-Hidden : goal.pass-layer-i-requires-in-Hidden
-pass-layer-i-requires-in-Hidden g t c =
+pub pass_layer-i-requires-in-Hidden : goal.pass_layer-i-requires-in-Hidden
+pass_layer-i-requires-in-Hidden g t c =
     let h = here c.args.nodes.now c.loop-tile.i c.args.owner (sym c.loop-tile-test.ensures) in
     let z = ap holding c.in-Some.is in
     let fewer = c.loop-tile.invariant.stretch.fewer in
@@ -133,7 +133,7 @@ loop-tile-preserved-in-Hidden g t c =
     let seen = draw_shows (λ d. g.D.Drawable.box_of d c.args.strips.now) c.args.tile c.args.draws.now in
     let shows = layer_shows c.args.tile c.args.layers.now in
     sifted-then seen shows c.args.nodes.now c.args.owner c.loop-tile.invariant
-    (sifted-over seen shows c.args.nodes.now c.args.owner c.loop-tile.i _ h.more h.below h.own c.add-draws-tally.ensures c.in-Some.layer c.pass-layer-i-in-Hidden.result Hidden c.in-Some.is (sym c.in-Hidden.ensures) refl (added_none _ _) c.pass-layer-i-in-Hidden.ensures.passed c.pass-layer-i-in-Hidden.ensures.stopped)
+    (sifted-over seen shows c.args.nodes.now c.args.owner c.loop-tile.i _ h.more h.below h.own c.add_draws-tally.ensures c.in-Some.layer c.pass_layer-i-in-Hidden.result Hidden c.in-Some.is (sym c.in-Hidden.ensures) refl (added_none _ _) c.pass_layer-i-in-Hidden.ensures.passed c.pass_layer-i-in-Hidden.ensures.stopped)
 
 pub loop-tile-smaller : goal.loop-tile-smaller
 loop-tile-smaller g t c =
@@ -146,4 +146,4 @@ loop-tile-preserved g t c =
     let seen = draw_shows (λ d. g.D.Drawable.box_of d c.args.strips.now) c.args.tile c.args.draws.now in
     let shows = layer_shows c.args.tile c.args.layers.now in
     sifted-then seen shows c.args.nodes.now c.args.owner c.loop-tile.invariant
-    (sifted-draws seen shows c.args.nodes.now c.args.owner c.loop-tile.i _ h.more h.below h.own c.add-draws-tally.ensures c.in-default.is)
+    (sifted-draws seen shows c.args.nodes.now c.args.owner c.loop-tile.i _ h.more h.below h.own c.add_draws-tally.ensures c.in_default.is)

@@ -3,8 +3,8 @@ use Rattle.tiles.specs.Tile.{draw_shows, layer_shows}
 use Rattle.tiles.specs.TileSteps.{Sifted}
 use Rattle.tiles.proofs.tile.+tile_layer.Given as goal
 
-abbrev pub decreases-tile-layer : goal.decreases-tile-layer
-decreases-tile-layer g l = l.depth
+abbrev pub decreases-tile_layer : goal.decreases-tile_layer
+decreases-tile_layer g l = l.depth
 
 abbrev pub invariant-loop-tile : goal.invariant-loop-tile
 invariant-loop-tile g l =

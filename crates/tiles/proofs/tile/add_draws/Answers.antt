@@ -6,7 +6,7 @@ use Rattle.tiles.proofs.Sieves.{picked_more}
 use Rattle.tiles.proofs.Tallies.{added-as, added_then}
 use Rattle.tiles.proofs.Tiles.{drawn-count}
 use Rattle.tiles.proofs.tile.add_draws.Goals as goal
-use Rattle.tiles.proofs.tile.add_draws.Goals.{then-draw-shows, else-draw-shows}
+use Rattle.tiles.proofs.tile.add_draws.Goals.{then-draw_shows, else-draw_shows}
 
 pub add-tally-requires : goal.add-tally-requires
 add-tally-requires g c =
@@ -21,13 +21,13 @@ loop-number-preserved g c =
     let le : a ≤ n = omega arith in
     let more = picked_more seen a n le in
     let before = c.loop-number.invariant.1 in
-    elim c.if-draw-shows.branch [
-      | then-draw-shows w ↦
-          let e : seen n ≡ true = sym c.draw-shows.ensures ∙ w.if-draw-shows.true in
+    elim c.if-draw_shows.branch [
+      | then-draw_shows w ↦
+          let e : seen n ≡ true = sym c.draw_shows.ensures ∙ w.if-draw_shows.true in
           let is : picked seen a (n - a) ++ drawing true n ≡ picked seen a (n + 1 - a) = ap (λ z. picked seen a (n - a) ++ drawing z n) (sym e) ∙ sym more in
           (omega arith, rw (w.out-is, w.tally-is) (added-as is (added_then before w.add-tally.ensures)))
-      | else-draw-shows w ↦
-          let e : seen n ≡ false = sym c.draw-shows.ensures ∙ w.if-draw-shows.false in
+      | else-draw_shows w ↦
+          let e : seen n ≡ false = sym c.draw_shows.ensures ∙ w.if-draw_shows.false in
           let is : picked seen a (n - a) ≡ picked seen a (n + 1 - a) = sym (append-nil (picked seen a (n - a))) ∙ ap (λ z. picked seen a (n - a) ++ drawing z n) (sym e) ∙ sym more in
           (omega arith, rw (w.out-is, w.tally-is) (added-as is before))
     ]

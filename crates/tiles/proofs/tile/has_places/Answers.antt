@@ -22,7 +22,7 @@ returns-then-most-places g c =
     walk-length v.tree.nodes x.threads.found
     ∙ room-counted v.tree.nodes v.account.drawn v.account.layers x.threads.chained x.threads.ends x.threads.holds) in
     let fewer = length-sift seen (layer_shows c.args.tile v.tree.layers) [] 0 (inside s (listed v)) in
-    sym (le-leb (length (tile_listed s c.args.tile seen v)) c.args.places (omega (arith, length-inside s (listed v), c.draw-count.ensures, c.layer-count.ensures)))
+    sym (le-leb (length (tile_listed s c.args.tile seen v)) c.args.places (omega (arith, length-inside s (listed v), c.draw_count.ensures, c.layer_count.ensures)))
 
 pub returns : goal.returns
-returns g c = ap (λ z. leb z c.args.places) (all-count c.list-surface-all.ensures)
+returns g c = ap (λ z. leb z c.args.places) (all-count c.list_surface-all.ensures)

@@ -15,8 +15,8 @@ use Rattle.tiles.proofs.Surfaces.{start-within, surface-at}
 use Rattle.tiles.proofs.Tallies.{added-as}
 use Rattle.tiles.proofs.tile.list_surface.Goals as goal
 
-pub tile-layer-end-requires : goal.tile-layer-end-requires
-tile-layer-end-requires g c =
+pub tile_layer-end-requires : goal.tile_layer-end-requires
+tile_layer-end-requires g c =
     let r = c.args.recorder.now in
     let v = recording r in
     let ns = c.nodes-nodes.result.now in
@@ -36,11 +36,11 @@ returns g c =
     let r = c.args.recorder.now in
     let v = recording r in
     let seen = draw_shows (λ d. g.D.Drawable.box_of d c.args.strips.now) c.args.tile c.args.draws.now in
-    let w = c.tile-layer-end.ensures.sifted in
+    let w = c.tile_layer-end.ensures.sifted in
     let on : inside c.args.surface (listed v) ≡ w.whole =
     ∥∥₁_elim r.nests (Coded-set (coded_list the_row.coded) _ _) (λ x.
-    surface-at v.tree.layers v.tree.nodes (r.counted.1 ∙ sym x.threads.holds) x.threads.numbered x.threads.found c.tile-layer-end.result.node w.whole
-    c.args.surface c.nodes-nodes.result.now c.owner.result c.start.result c.requires c.nodes-nodes.ensures c.owner.ensures c.start.ensures w.stretch c.tile-layer-end.ensures.stopped) in
+    surface-at v.tree.layers v.tree.nodes (r.counted.1 ∙ sym x.threads.holds) x.threads.numbered x.threads.found c.tile_layer-end.result.node w.whole
+    c.args.surface c.nodes-nodes.result.now c.owner.result c.start.result c.requires c.nodes-nodes.ensures c.owner.ensures c.start.ensures w.stretch c.tile_layer-end.ensures.stopped) in
     let all : tile_listed c.args.surface c.args.tile seen v ≡ w.shown =
     ap (λ z. sift seen (layer_shows c.args.tile v.tree.layers) [] 0 z) on
     ∙ ap (λ z. sift seen (layer_shows c.args.tile z) [] 0 w.whole) (sym c.layers.ensures)

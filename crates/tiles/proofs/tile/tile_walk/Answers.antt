@@ -13,8 +13,8 @@ returns g c =
     let seen = draw_shows (λ d. g.D.Drawable.box_of d c.args.strips.now) c.args.tile c.args.draws.now in
     let list = tile_listed s c.args.tile seen v in
     let places = length c.args.out.now in
-    let fits : leb (length list) places ≡ true = sym c.has-places.ensures ∙ c.if-not-has-places.false in
-    let w = c.list-surface-all.ensures in (
-      all_yes (surface_questions s c.args.tile v (length c.args.draws.now)) ((leb (length list) places, 11) ∷ []) c.in-ok-ask.ensures.0 ∙ rw fits,
+    let fits : leb (length list) places ≡ true = sym c.has_places.ensures ∙ c.if-not-has_places.false in
+    let w = c.list_surface-all.ensures in (
+      all_yes (surface_questions s c.args.tile v (length c.args.draws.now)) ((leb (length list) places, 11) ∷ []) c.in_ok-ask.ensures.0 ∙ rw fits,
       record { count = all-count w; written = all-written w (leb-true (length list) places fits) },
     )

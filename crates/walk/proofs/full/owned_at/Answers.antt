@@ -6,4 +6,4 @@ pub returns-then-place-nodes : goal.returns-then-place-nodes
 returns-then-place-nodes c = rw (drop_all c.args.place c.args.nodes.now c.if-place-nodes.true)
 
 pub returns : goal.returns
-returns c = rw (drop_more c.args.nodes.now c.args.place blank c.if-place-nodes.false) c.same-owner.ensures
+returns c = rw (drop_more c.args.nodes.now c.args.place blank c.if-place-nodes.false) c.same_owner.ensures

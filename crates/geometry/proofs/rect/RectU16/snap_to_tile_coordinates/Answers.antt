@@ -5,13 +5,13 @@ use Rattle.geometry.specs.Snap.{beyond}
 use Rattle.geometry.proofs.Edges.{ahead, outward-least, snapped-none, snapped-some, none-beyond}
 use Rattle.geometry.proofs.rect.RectU16.snap_to_tile_coordinates.Goals as goal
 
-pub returns-then-self-gt-LAST-EDGE : goal.returns-then-self-gt-LAST-EDGE
-returns-then-self-gt-LAST-EDGE c =
+pub returns-then-self-gt-LAST_EDGE : goal.returns-then-self-gt-LAST_EDGE
+returns-then-self-gt-LAST_EDGE c =
     let r = c.args.self in
-    let full : empty r ≡ false = sym c.if-is-empty.ensures.value in
+    let full : empty r ≡ false = sym c.is_empty.ensures.value ∙ c.if-is_empty.false in
     let past : beyond r ≡ true =
     ⊎_elim (λ h. or_left (ltb 65532 r.x1) (ltb 65532 r.y1) (lt-ltb 65532 r.x1 h)) (λ h. or_right (ltb 65532 r.x1) (ltb 65532 r.y1) (lt-ltb 65532 r.y1 h.1))
-    c.then-self-gt-LAST-EDGE.either in
+    c.then-self-gt-LAST_EDGE.either in
     record {
       value = snapped-none r full past;
       least = λ e other f w. none-beyond r e past other f w;
@@ -21,9 +21,9 @@ returns-then-self-gt-LAST-EDGE c =
 pub returns : goal.returns
 returns c =
     let r = c.args.self in
-    let full : empty r ≡ false = sym c.if-is-empty.ensures.value in
+    let full : empty r ≡ false = sym c.if-is_empty.ensures.value in
     let inside : beyond r ≡ false =
-    or_from (ltb 65532 r.x1) (ltb 65532 r.y1) (le-ltb 65532 r.x1 c.if-self-gt-LAST-EDGE.false) (le-ltb 65532 r.y1 c.if-self-gt-LAST-EDGE-2.false) in
+    or_from (ltb 65532 r.x1) (ltb 65532 r.y1) (le-ltb 65532 r.x1 c.if-self-gt-LAST_EDGE.false) (le-ltb 65532 r.y1 c.if-self-gt-LAST_EDGE-2.false) in
     record {
       value = ap Some c.new-2.ensures ∙ snapped-some r full inside;
       least = λ e. rw c.new-2.ensures (outward-least r (ahead r e));

@@ -10,5 +10,5 @@ returns c =
     let h = c.in-Some.ensures in
     let some : 0 < a.open_count = omega arith in
     let within : a.open_count ≤ length a.layer_stack = omega arith in
-    let e = put-innermost a.layer_stack a.open_count c.in-Some.innermost (Some c.in-Some-bbox.bbox) c.put-into-layer.result some within h.1 c.put-into-layer.ensures in
+    let e = put-innermost a.layer_stack a.open_count c.in-Some.innermost (Some c.in-Some-bbox.bbox) c.put_into-layer.result some within h.1 c.put_into-layer.ensures in
     ap (λ o. with_opened o (account_of a)) (e ∙ ap (λ b. take_in b (open_layers a.layer_stack a.open_count)) (sym c.in-Some-bbox.is))

@@ -2,5 +2,5 @@ use Rattle.geometry.specs.Size.{size}
 use Rattle.record.proofs.Sounds.{sound-at, sound_empty}
 use Rattle.record.proofs.recorder.CommandRecorder.new.Goals as goal
 
-pub invariant-of-result : goal.invariant-of-result
-invariant-of-result c = sound-at c.new.ensures c.new-2.ensures (sound_empty (size 0 0))
+pub invariant_of-result : goal.invariant_of-result
+invariant_of-result c = sound-at c.new.ensures c.new-2.ensures (sound_empty (size 0 0))

@@ -1,5 +1,5 @@
 use Rattle.record.proofs.Sounds.{sound-at, sound_empty}
 use Rattle.record.proofs.recorder.CommandRecorder.reset.Goals as goal
 
-pub invariant-of-self : goal.invariant-of-self
-invariant-of-self c = sound-at c.reset.ensures c.clear.ensures (sound_empty _)
+pub invariant_of-self : goal.invariant_of-self
+invariant_of-self c = sound-at c.reset.ensures c.clear.ensures (sound_empty _)

@@ -10,4 +10,4 @@ returns c =
     let n = length-take t.count t.records in
     let below : c.args.id < t.count = omega (arith, c.requires) in
     let within : c.args.id < length t.records = omega (arith, c.requires) in
-    rw c.placed-kind-layer.ensures (change-take (recorded_closed k) _ t.records c.args.id t.count below within)
+    rw c.placed_kind-layer.ensures (change-take (recorded_closed k) _ t.records c.args.id t.count below within)

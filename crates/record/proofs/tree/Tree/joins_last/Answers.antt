@@ -7,7 +7,7 @@ pub returns-in-None : goal.returns-in-None
 returns-in-None c =
     let t = c.args.self.now in
     let some : 0 < t.node_count = omega arith in
-    rw (back_last blank t.nodes t.node_count some) (rw c.in-None.is c.same-owner.ensures)
+    rw (back_last blank t.nodes t.node_count some) (rw c.in-None.is c.same_owner.ensures)
 
 pub returns-in-Some : goal.returns-in-Some
 returns-in-Some c =
