@@ -26,7 +26,7 @@ use walk::listed::Listed;
 impl<'a, D: Drawable + Copy> Design<'a, D> {
     // Nothing recorded yet. The draw list has as many places as `draws`, and no more.
     pub fn new(draws: Vec<D>, strips: &'a [Strip]) -> Design<'a, D>
-        ensures begun { Reached box_of mode_of empty result }
+        ensures begun { Reached D.box_of D.mode_of empty result }
         ensures places { result.draws.items ≡ draws.items }
         ensures strips { result.strips.now ≡ strips.now }
     {
@@ -40,9 +40,9 @@ impl<'a, D: Drawable + Copy> Design<'a, D> {
 
     // Makes one call. A refused one alters nothing.
     pub fn make(&mut self, call: Call<D>) -> Answer
-        ensures made { Made (λ d. box_of d self.old.strips.now) mode_of call result (recording self.old.recorder) (recording self.new.recorder) self.old.draws.items self.new.draws.items }
+        ensures made { Made (λ d. D.box_of d self.old.strips.now) D.mode_of call result (recording self.old.recorder) (recording self.new.recorder) self.old.draws.items self.new.draws.items }
         ensures strips { self.new.strips.now ≡ self.old.strips.now }
-        ensures leads { (b : Ledger D) → Reached box_of mode_of b self.old → Reached box_of mode_of (after b call result) self.new }
+        ensures leads { (b : Ledger D) → Reached D.box_of D.mode_of b self.old → Reached D.box_of D.mode_of (after b call result) self.new }
     {
         make_call(
             &mut self.recorder,
@@ -55,7 +55,7 @@ impl<'a, D: Drawable + Copy> Design<'a, D> {
     // Lists all that was recorded, from the first place of `out` on, and answers the count of entries.
     pub fn full_walk(&self, out: &mut [Listed]) -> Result<usize, Refusal>
         ensures walked { Answers (walk_questions (recording self.now.recorder) (length out.old)) result (λ n. FullWalk (recording self.now.recorder) n out.old out.new) (out.new ≡ out.old) }
-        ensures law { (b : Ledger D) → Reached box_of mode_of b self.now → ListsAll b result out.old out.new }
+        ensures law { (b : Ledger D) → Reached D.box_of D.mode_of b self.now → ListsAll b result out.old out.new }
     {
         full_walk(&self.recorder, out)
     }
@@ -67,8 +67,8 @@ impl<'a, D: Drawable + Copy> Design<'a, D> {
         tile: Tile,
         out: &mut [Listed],
     ) -> Result<usize, Refusal>
-        ensures walked { Answers (tile_questions surface tile (draw_shows (λ d. box_of d self.now.strips.now) tile self.now.draws.items) (recording self.now.recorder) (vec_len self.now.draws) (length out.old)) result (λ n. TileWalk surface tile (draw_shows (λ d. box_of d self.now.strips.now) tile self.now.draws.items) (recording self.now.recorder) n out.old out.new) (out.new ≡ out.old) }
-        ensures law { (b : Ledger D) → Reached box_of mode_of b self.now → ListsTile (λ d. box_of d self.now.strips.now) surface tile b (vec_len self.now.draws) result out.old out.new }
+        ensures walked { Answers (tile_questions surface tile (draw_shows (λ d. D.box_of d self.now.strips.now) tile self.now.draws.items) (recording self.now.recorder) (vec_len self.now.draws) (length out.old)) result (λ n. TileWalk surface tile (draw_shows (λ d. D.box_of d self.now.strips.now) tile self.now.draws.items) (recording self.now.recorder) n out.old out.new) (out.new ≡ out.old) }
+        ensures law { (b : Ledger D) → Reached D.box_of D.mode_of b self.now → ListsTile (λ d. D.box_of d self.now.strips.now) surface tile b (vec_len self.now.draws) result out.old out.new }
     {
         tile_walk(
             &self.recorder,
@@ -82,10 +82,10 @@ impl<'a, D: Drawable + Copy> Design<'a, D> {
 
     // A draw that the tile shows of the scene; none where it shows no draw.
     pub fn hit(&self, tile: Tile) -> Result<Option<u32>, Refusal>
-        ensures some { Answers (hit_questions tile (recording self.now.recorder) (vec_len self.now.draws)) result (λ h. IfSome h (λ n. draw_listed n (tile_listed Scene tile (draw_shows (λ d. box_of d self.now.strips.now) tile self.now.draws.items) (recording self.now.recorder)) ≡ true)) (Unit {0}) }
-        ensures none { Answers (hit_questions tile (recording self.now.recorder) (vec_len self.now.draws)) result (λ h. is_some h ≡ any_draw (tile_listed Scene tile (draw_shows (λ d. box_of d self.now.strips.now) tile self.now.draws.items) (recording self.now.recorder))) (Unit {0}) }
-        ensures some_law { (b : Ledger D) → Reached box_of mode_of b self.now → HitsListed (λ d. box_of d self.now.strips.now) tile b (vec_len self.now.draws) result }
-        ensures none_law { (b : Ledger D) → Reached box_of mode_of b self.now → HitsAny (λ d. box_of d self.now.strips.now) tile b (vec_len self.now.draws) result }
+        ensures some { Answers (hit_questions tile (recording self.now.recorder) (vec_len self.now.draws)) result (λ h. IfSome h (λ n. draw_listed n (tile_listed Scene tile (draw_shows (λ d. D.box_of d self.now.strips.now) tile self.now.draws.items) (recording self.now.recorder)) ≡ true)) (Unit {0}) }
+        ensures none { Answers (hit_questions tile (recording self.now.recorder) (vec_len self.now.draws)) result (λ h. is_some h ≡ any_draw (tile_listed Scene tile (draw_shows (λ d. D.box_of d self.now.strips.now) tile self.now.draws.items) (recording self.now.recorder))) (Unit {0}) }
+        ensures some_law { (b : Ledger D) → Reached D.box_of D.mode_of b self.now → HitsListed (λ d. D.box_of d self.now.strips.now) tile b (vec_len self.now.draws) result }
+        ensures none_law { (b : Ledger D) → Reached D.box_of D.mode_of b self.now → HitsAny (λ d. D.box_of d self.now.strips.now) tile b (vec_len self.now.draws) result }
     {
         hit(&self.recorder, tile, self.draws.as_slice(), self.strips)
     }
@@ -93,7 +93,7 @@ impl<'a, D: Drawable + Copy> Design<'a, D> {
     // The recorder, to be read. What it holds is what the ledger says.
     pub fn recorder(&self) -> &CommandRecorder
         ensures value { result.now ≡ self.now.recorder }
-        ensures led { (b : Ledger D) → Reached box_of mode_of b self.now → Led (λ d. box_of d self.now.strips.now) mode_of b (recording result.now) self.now.draws.items }
+        ensures led { (b : Ledger D) → Reached D.box_of D.mode_of b self.now → Led (λ d. D.box_of d self.now.strips.now) D.mode_of b (recording result.now) self.now.draws.items }
     {
         &self.recorder
     }

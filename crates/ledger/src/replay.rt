@@ -18,7 +18,7 @@ pub fn make_call<D: Drawable + Copy>(
     draws: &mut [D],
     strips: &[Strip],
 ) -> Answer
-    ensures { Made (λ d. box_of d strips.now) mode_of call result (recording recorder.old) (recording recorder.new) draws.old draws.new }
+    ensures { Made (λ d. D.box_of d strips.now) D.mode_of call result (recording recorder.old) (recording recorder.new) draws.old draws.new }
 {
     match call {
         Call::Reset { width, height } => match recorder.reset(width, height) {
@@ -56,9 +56,9 @@ pub fn replay<D: Drawable + Copy>(
 ) -> Replayed
     ensures made { result.made ≡ min (length calls.now) (length answers.old) }
     ensures later { drop result.made answers.new ≡ drop result.made answers.old }
-    ensures answered { AllAnswered (λ d. box_of d strips.now) mode_of (length draws.old) empty (take result.made calls.now) (take result.made answers.new) }
-    ensures list { draws.new ≡ draw_list (λ d. box_of d strips.now) mode_of empty (take result.made calls.now) (take result.made answers.new) draws.old }
-    ensures led { Led (λ d. box_of d strips.now) mode_of (ledger (take result.made calls.now) (take result.made answers.new)) (recording result.recorder) draws.new }
+    ensures answered { AllAnswered (λ d. D.box_of d strips.now) D.mode_of (length draws.old) empty (take result.made calls.now) (take result.made answers.new) }
+    ensures list { draws.new ≡ draw_list (λ d. D.box_of d strips.now) D.mode_of empty (take result.made calls.now) (take result.made answers.new) draws.old }
+    ensures led { Led (λ d. D.box_of d strips.now) D.mode_of (ledger (take result.made calls.now) (take result.made answers.new)) (recording result.recorder) draws.new }
 {
     let mut recorder = CommandRecorder::new();
     let made = calls.len().min(answers.len());

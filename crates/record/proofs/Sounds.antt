@@ -25,12 +25,12 @@ use Rattle.record.proofs.Nestings.{same_self, same-equal, free-none, free_own, s
 abbrev pub Sound : AccountView → TreeView → Type 0
 Sound a t = Counted a t × ∥ Nests a t ∥₁
 
--- as a recorder's two ghost fields ask it
-pub sound-at : {a b : AccountView} {t u : TreeView} → a ≡ b → t ≡ u → Sound b u → Counted a t × (∥ Nests a t ∥₁ × Unit {0})
+-- the same at equal views
+pub sound-at : {a b : AccountView} {t u : TreeView} → a ≡ b → t ≡ u → Sound b u → Sound a t
 sound-at {a} {b} {t} {u} e f w =
-    let P : AccountView → Type 0 = λ x. Counted x t × (∥ Nests x t ∥₁ × Unit {0}) in
-    let Q : TreeView → Type 0 = λ y. Counted b y × (∥ Nests b y ∥₁ × Unit {0}) in
-    subst P (sym e) (subst Q (sym f) (w.0, (w.1, tt)))
+    let P : AccountView → Type 0 = λ x. Sound x t in
+    let Q : TreeView → Type 0 = λ y. Sound b y in
+    subst P (sym e) (subst Q (sym f) w)
 
 pub sound_empty : (scene : SizeU16) → Sound (empty_account scene) empty_tree
 sound_empty scene = (

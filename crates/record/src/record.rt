@@ -22,7 +22,7 @@ use refusal::Refusal;
 
 // A draw's box, where it is wanted: with no layer open nobody takes it in.
 fn bbox_if<D: Drawable>(wanted: bool, draw: &D, strips: &[Strip]) -> Option<RectU16>
-    ensures { result ≡ (if wanted then box_of draw.now strips.now else None) }
+    ensures { result ≡ (if wanted then D.box_of draw.now strips.now else None) }
 {
     if wanted { draw.bbox(strips) } else { None }
 }
@@ -55,7 +55,7 @@ impl CommandRecorder {
         draws: &mut [D],
         strips: &[Strip],
     ) -> Result<u32, Refusal>
-        ensures { Answers (draw_questions (length draws.old) (recording self.old)) result (λ n. Pushed n draw (box_of draw strips.now) (mode_of draw) (recording self.old) (recording self.new) draws.old draws.new) ((self.new ≡ self.old) × (draws.new ≡ draws.old)) }
+        ensures { Answers (draw_questions (length draws.old) (recording self.old)) result (λ n. Pushed n draw (D.box_of draw strips.now) (D.mode_of draw) (recording self.old) (recording self.new) draws.old draws.new) ((self.new ≡ self.old) × (draws.new ≡ draws.old)) }
     {
         let number = self.account.draw_count;
         if number >= MAX_DRAWS || number as usize >= draws.len() {

@@ -35,7 +35,7 @@ struct Reached {
 
 // Whether the box of draw `number` covers the tile.
 fn draw_shows<D: Drawable>(draws: &[D], strips: &[Strip], number: u32, tile: Tile) -> bool
-    ensures { result ≡ draw_shows (λ d. box_of d strips.now) tile draws.now number }
+    ensures { result ≡ draw_shows (λ d. D.box_of d strips.now) tile draws.now number }
 {
     let place = number as usize;
     if place >= draws.len() {
@@ -58,7 +58,7 @@ fn add_draws<D: Drawable>(
     at: Tally,
 ) -> Tally
     requires { at.count + (end - start) < 2 ^ 32 }
-    ensures { Added (picked (draw_shows (λ d. box_of d strips.now) tile draws.now) start (end - start)) at out.old result out.new }
+    ensures { Added (picked (draw_shows (λ d. D.box_of d strips.now) tile draws.now) start (end - start)) at out.old result out.new }
 {
     let mut tally = at;
     for number in start..end {
@@ -104,7 +104,7 @@ fn tile_layer<D: Drawable>(
     requires node { first ≤ length nodes.now }
     requires places { at.count + room (drop first nodes.now) < 2 ^ 32 }
     requires deep { held (drop first nodes.now) ≤ depth }
-    ensures sifted { Sifted (draw_shows (λ d. box_of d strips.now) tile draws.now) (layer_shows tile layers.now) nodes.now owner first at out.old result.node result.tally out.new }
+    ensures sifted { Sifted (draw_shows (λ d. D.box_of d strips.now) tile draws.now) (layer_shows tile layers.now) nodes.now owner first at out.old result.node result.tally out.new }
     ensures stopped { starts owner (drop result.node nodes.now) ≡ false }
 {
     let mut i = first;
@@ -155,7 +155,7 @@ fn list_surface<D: Drawable>(
     out: &mut [Listed],
 ) -> Tally
     requires { is_surface surface (recording recorder.now).tree.layers ≡ true }
-    ensures { Added (tile_listed surface tile (draw_shows (λ d. box_of d strips.now) tile draws.now) (recording recorder.now)) nothing out.old result out.new }
+    ensures { Added (tile_listed surface tile (draw_shows (λ d. D.box_of d strips.now) tile draws.now) (recording recorder.now)) nothing out.old result out.new }
 {
     let nodes = recorder.nodes();
     let end = tile_layer(
@@ -214,7 +214,7 @@ fn has_places<D: Drawable>(
     places: usize,
 ) -> bool
     requires { is_surface surface (recording recorder.now).tree.layers ≡ true }
-    ensures { result ≡ nat_le (length (tile_listed surface tile (draw_shows (λ d. box_of d strips.now) tile draws.now) (recording recorder.now))) places }
+    ensures { result ≡ nat_le (length (tile_listed surface tile (draw_shows (λ d. D.box_of d strips.now) tile draws.now) (recording recorder.now))) places }
 {
     let most = recorder.draw_count() as usize + 2 * recorder.layer_count() as usize;
     if most <= places {
@@ -234,7 +234,7 @@ pub fn tile_walk<D: Drawable>(
     strips: &[Strip],
     out: &mut [Listed],
 ) -> Result<usize, Refusal>
-    ensures { Answers (tile_questions surface tile (draw_shows (λ d. box_of d strips.now) tile draws.now) (recording recorder.now) (length draws.now) (length out.old)) result (λ n. TileWalk surface tile (draw_shows (λ d. box_of d strips.now) tile draws.now) (recording recorder.now) n out.old out.new) (out.new ≡ out.old) }
+    ensures { Answers (tile_questions surface tile (draw_shows (λ d. D.box_of d strips.now) tile draws.now) (recording recorder.now) (length draws.now) (length out.old)) result (λ n. TileWalk surface tile (draw_shows (λ d. D.box_of d strips.now) tile draws.now) (recording recorder.now) n out.old out.new) (out.new ≡ out.old) }
 {
     ask(recorder, surface, tile, draws.len())?;
     if !has_places(recorder, surface, tile, draws, strips, out.len()) {
@@ -251,8 +251,8 @@ pub fn hit<D: Drawable>(
     draws: &[D],
     strips: &[Strip],
 ) -> Result<Option<u32>, Refusal>
-    ensures some { Answers (hit_questions tile (recording recorder.now) (length draws.now)) result (λ h. IfSome h (λ n. draw_listed n (tile_listed Scene tile (draw_shows (λ d. box_of d strips.now) tile draws.now) (recording recorder.now)) ≡ true)) (Unit {0}) }
-    ensures none { Answers (hit_questions tile (recording recorder.now) (length draws.now)) result (λ h. is_some h ≡ any_draw (tile_listed Scene tile (draw_shows (λ d. box_of d strips.now) tile draws.now) (recording recorder.now))) (Unit {0}) }
+    ensures some { Answers (hit_questions tile (recording recorder.now) (length draws.now)) result (λ h. IfSome h (λ n. draw_listed n (tile_listed Scene tile (draw_shows (λ d. D.box_of d strips.now) tile draws.now) (recording recorder.now)) ≡ true)) (Unit {0}) }
+    ensures none { Answers (hit_questions tile (recording recorder.now) (length draws.now)) result (λ h. is_some h ≡ any_draw (tile_listed Scene tile (draw_shows (λ d. D.box_of d strips.now) tile draws.now) (recording recorder.now))) (Unit {0}) }
 {
     ask(recorder, Surface::Scene, tile, draws.len())?;
     let all = list_surface(recorder, Surface::Scene, tile, draws, strips, &mut []);

@@ -11,5 +11,6 @@ close_layer-requires c =
 pub invariant_of-self : goal.invariant_of-self
 invariant_of-self c =
     let r = c.args.self.now in
-    sound-at c.leave_layer.ensures c.close_layer.ensures
-    (sound-leave c.in-Some.id (account_of r.account) (tree_of r.tree) c.in-Some.ensures (r.counted, r.nests) c.in_ok-closed.closed)
+    let s = sound-at c.leave_layer.ensures c.close_layer.ensures
+    (sound-leave c.in-Some.id (account_of r.account) (tree_of r.tree) c.in-Some.ensures (r.counted, r.nests) c.in_ok-closed.closed) in
+    record { counted = s.0; nests = s.1 }

@@ -18,9 +18,10 @@ pub invariant_of-self : goal.invariant_of-self
 invariant_of-self c =
     let r = c.args.self.now in
     let a = account_of r.account in
-    sound-at c.open_layer.ensures
+    let s = sound-at c.open_layer.ensures
     (c.open_layer-2.ensures ∙ ap₂ (λ x o. tree_after_opening a.layers a.drawn x c.args.filter o (tree_of r.tree)) c.recorded_open-layer.ensures c.active_layer-owner.ensures)
-    (sound-open c.args.props c.args.filter (r.account.open_count + 1) a (tree_of r.tree) (r.counted, r.nests))
+    (sound-open c.args.props c.args.filter (r.account.open_count + 1) a (tree_of r.tree) (r.counted, r.nests)) in
+    record { counted = s.0; nests = s.1 }
 
 pub returns : goal.returns
 returns c =
