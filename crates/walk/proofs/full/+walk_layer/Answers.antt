@@ -16,8 +16,8 @@ write_draws-place-requires t c =
     let h = here c.args.nodes.now c.loop-owner.i c.args.owner (sym c.loop-owner-test.ensures) in
     omega (arith, h.rooms)
 
-pub offset-bounds-out-place : goal.offset-bounds-out-place
-offset-bounds-out-place t c =
+pub offset_bounds-out-place : goal.offset_bounds-out-place
+offset_bounds-out-place t c =
     let h = here c.args.nodes.now c.loop-owner.i c.args.owner (sym c.loop-owner-test.ensures) in
     let z = ap holding c.in-Some.is in
     let lt1 : c.write_draws-place.result < length c.write_draws-place.new.out = omega (arith, h.rooms) in
@@ -50,8 +50,8 @@ walk_layer-inner-requires t c =
     let d : 1 ≤ c.args.depth = omega (arith, h.holds) in
     (omega arith, (omega (arith, h.below), (omega (arith, h.rooms), omega (arith, h.holds))))
 
-pub offset-bounds-out-inner : goal.offset-bounds-out-inner
-offset-bounds-out-inner t c =
+pub offset_bounds-out-inner : goal.offset_bounds-out-inner
+offset_bounds-out-inner t c =
     let h = here c.args.nodes.now c.loop-owner.i c.args.owner (sym c.loop-owner-test.ensures) in
     let z = ap holding c.in-Some.is in
     let long = length-set c.write_draws-place.new.out c.write_draws-place.result (Enter c.in-Some.layer) in
