@@ -1,11 +1,11 @@
 -- The boxes of strips are of whole tiles, and the loop over the strips.
-use Rattle.std.specs.Prelude.{◌≡◌, ℕ, ◌+◌, ◌-◌, ◌%◌, ◌<◌, ◌≤◌, min, max, Bool, true, false, cond, List, [], ◌∷◌, ◌++◌, length, take, drop, Some, None, Option, ◌==◌, slice_index_or, slice_range, refl}
+use Rattle.std.specs.Prelude.{◌≡◌, ℕ, ◌+◌, ◌-◌, ◌%◌, ◌<◌, ◌≤◌, min, max, List, [], ◌∷◌, ◌++◌, length, take, drop, Some, None, Option, ◌==◌, slice_index_or, slice_range, refl}
 use Rattle.std.proofs.Common.{sym, ap, ◌∙◌, arith, ⊎_elim}
 use Rattle.std.proofs.lemmas.List.{take_more, take_all, take_rest, drop_all, length-drop}
 use Rattle.std.proofs.lemmas.Bool.{cond_both, cases_lt}
 use Rattle.geometry.specs.declared.rect.RectU16.{RectU16}
-use Rattle.geometry.specs.Rect.{rect, empty, joined}
-use Rattle.geometry.specs.Snap.{snapped, WholeTile, beyond, lowered, raised}
+use Rattle.geometry.specs.Rect.{rect, empty}
+use Rattle.geometry.specs.Snap.{snapped, beyond}
 use Rattle.draws.specs.declared.strip.Strip.{Strip}
 use Rattle.draws.specs.Strips.{strip_box, joined_to, strips_box, strips_box_from, BoxOnTiles}
 

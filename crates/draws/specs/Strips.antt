@@ -1,5 +1,5 @@
 -- The boxes of strips.
-use Rattle.std.specs.Prelude.{◌≡◌, ℕ, ◌+◌, ◌-◌, cond, List, [], ◌∷◌, take, drop, Some, None, Option, ◌==◌}
+use Rattle.std.specs.Prelude.{ℕ, ◌+◌, ◌-◌, cond, List, [], ◌∷◌, take, drop, Some, None, Option, ◌==◌}
 use Rattle.geometry.specs.declared.rect.RectU16.{RectU16}
 use Rattle.geometry.specs.Rect.{rect, joined}
 use Rattle.geometry.specs.Snap.{snapped, WholeTile}

@@ -1,4 +1,6 @@
 // What can be drawn on a sheet: the interface, and the kinds of draw.
+#![tactic(auto)]
+
 pub mod blend;
 pub mod drawable;
 pub mod fill;

@@ -1,7 +1,6 @@
 -- What a rectangle with a point says of its edges, and of the edges of a rectangle around it.
-use Rattle.std.proofs.Common.{◌≡◌, ℕ, ◌+◌, ◌-◌, ◌*◌, ◌/◌, ◌%◌, ◌<◌, ◌≤◌, min, max, true, false, ltb, leb, Some, None, Decides, ⊎_elim, arith}
+use Rattle.std.proofs.Common.{◌≡◌, ℕ, ◌-◌, ◌%◌, ◌<◌, ◌≤◌, true, false, ltb, leb, Some, None, Decides, ⊎_elim, arith}
 use Rattle.std.proofs.lemmas.Bool.{or_parts, or_cases, leb-true, leb-false, cases_Bool, ltb-true}
-use Rattle.std.proofs.lemmas.Bool.Decides.{nat_tests}
 use Rattle.geometry.specs.declared.rect.RectU16.{RectU16}
 use Rattle.geometry.specs.Rect.{rect, Holds, Within, Least, empty, joined}
 use Rattle.geometry.specs.Snap.{WholeTile, Fits16, Around, lowered, raised, beyond, snapped}

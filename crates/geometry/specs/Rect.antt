@@ -1,5 +1,5 @@
 -- What a rectangle holds, and the operations on rectangles.
-use Rattle.std.specs.Prelude.{◌≡◌, ℕ, suc, ◌+◌, ◌-◌, ◌<◌, ◌≤◌, min, max, Bool, ◌&&◌, ◌||◌, ℤ, pos, negsuc, nat_le, nat_lt}
+use Rattle.std.specs.Prelude.{ℕ, suc, ◌+◌, ◌-◌, ◌<◌, ◌≤◌, min, max, Bool, ◌&&◌, ◌||◌, ℤ, pos, negsuc, nat_le, nat_lt}
 use Rattle.geometry.specs.declared.padding.PaddingU16.{PaddingU16}
 use Rattle.geometry.specs.declared.rect.RectU16.{RectU16}
 

@@ -1,4 +1,6 @@
 // Rectangles, sizes and paddings with 16-bit edges, and the tiles that they cover.
+#![tactic(auto)]
+
 mod constants;
 pub mod padding;
 pub mod rect;

@@ -18,7 +18,7 @@ use Rattle.tiles.specs.declared.showing.Showing.{Showing}
 use Rattle.tiles.specs.declared.showing.Showing.TheVariants as showings
 use Rattle.tiles.specs.Tile.{sift, entering, deeper, box_shows, draw_shows, showing, showing_kind, layer_shows, filter_kind, filter_at}
 use Rattle.ledger.specs.Laws.{Each, Stands}
-use Rattle.ledger.specs.Ledger.{Opening, Entry, Draw, Enter, Leave, number, numbers}
+use Rattle.ledger.specs.Ledger.{Opening, Entry, Leave, number, numbers}
 use Rattle.ledger.specs.Sheet.{Sheet, end, draw, layer, entries, or_nothing, contents, layer_record}
 use Rattle.ledger.specs.Tiles.{regular}
 use Rattle.ledger.proofs.Places.{RecordsAt}

@@ -1,7 +1,6 @@
 -- The innermost of the open layers, where there is one.
 use Rattle.std.proofs.Common.{◌≡◌, ℕ, zero, suc, ◌-◌, cond, not, List, [], ◌∷◌, Some, None, Option, sym, refl, ap, arith}
 use Rattle.layers.specs.declared.layer.OpenLayer.{OpenLayer}
-use Rattle.layers.specs.declared.layer.PoppedLayer.TheVariants as popped
 use Rattle.record.specs.Account.{open_layers, outer, at_root, innermost_of, innermost_pads, closing_of}
 use Rattle.layers.specs.Closing.{pads_within, closing}
 

@@ -1,5 +1,5 @@
 -- The tree of a recording, as plain lists, and what each call makes of it.
-use Rattle.std.specs.Prelude.{ℕ, zero, suc, ◌+◌, List, [], ◌∷◌, ◌++◌, take, Some, None, Option}
+use Rattle.std.specs.Prelude.{ℕ, zero, suc, List, [], ◌∷◌, ◌++◌, take, Some, None, Option}
 use Rattle.filter.specs.declared.data.FilterData.{FilterData}
 use Rattle.layers.specs.declared.layer.ClosedLayer.{ClosedLayer}
 use Rattle.layers.specs.declared.layer.RecordedLayer.{RecordedLayer}

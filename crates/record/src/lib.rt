@@ -1,4 +1,6 @@
 // The recorder: draws and nested layers go in, and a tree of nodes with a box for every closed layer comes out.
+#![tactic(auto)]
+
 pub mod account;
 mod account_calls;
 pub mod owner;

@@ -1,5 +1,5 @@
 -- Calls by their arguments, and what the rules make of a list of them.
-use Rattle.std.specs.Prelude.{◌≡◌, ℕ, cond, List, [], ◌∷◌, map, reverse, length, Some, None, Option}
+use Rattle.std.specs.Prelude.{ℕ, List, [], ◌∷◌, map, length, Some, None, Option}
 use Rattle.refusal.specs.Refusals.{first_no}
 use Rattle.geometry.specs.declared.rect.RectU16.{RectU16}
 use Rattle.geometry.specs.declared.size.SizeU16.{SizeU16}
@@ -7,8 +7,6 @@ use Rattle.geometry.specs.Size.{size}
 use Rattle.geometry.specs.Snap.{snapped}
 use Rattle.filter.specs.declared.data.FilterData.{FilterData}
 use Rattle.filter.specs.declared.placement.FilterLayerPlacement.{FilterLayerPlacement}
-use Rattle.layers.specs.declared.layer.OpenLayer.{OpenLayer}
-use Rattle.layers.specs.declared.layer.RecordedLayer.{RecordedLayer}
 use Rattle.layers.specs.declared.layer.RecordedLayerKind.{RecordedLayerKind}
 use Rattle.layers.specs.declared.layer.RecordedLayerKind.TheVariants.{Regular, Filter}
 use Rattle.layers.specs.declared.props.LayerProps.{LayerProps}

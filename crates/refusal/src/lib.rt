@@ -1,4 +1,6 @@
 // Why a call was refused. A refused call has altered nothing.
+#![tactic(auto)]
+
 ghost use Rattle.std.specs.Prelude.{◌≡◌};
 ghost use Rattle.refusal.specs.Refusals.{number_of, sentence_of};
 

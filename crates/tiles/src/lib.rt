@@ -1,4 +1,6 @@
 // What a tile shows of a recording: its list on a surface, and a hit.
+#![tactic(auto)]
+
 mod showing;
 pub mod surface;
 mod tally;

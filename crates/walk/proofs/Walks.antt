@@ -6,7 +6,7 @@ use Rattle.walk.specs.declared.listed.Listed.{Listed}
 use Rattle.walk.specs.declared.listed.Listed.TheVariants.{Enter, Leave}
 use Rattle.record.specs.Table.{same, top, held, holding}
 use Rattle.record.specs.Nesting.{pushed}
-use Rattle.walk.specs.Walk.{walk, told, leaves, spanned, entered, starts, room, Walked}
+use Rattle.walk.specs.Walk.{walk, told, spanned, entered, starts, room, Walked}
 
 -- a node of the layer that the walk is in
 pub walk_here : (x : Node) (xs : List Node) (out : List Listed) (s : List ℕ) → same x.owner (top s) ≡ true → walk (x ∷ xs) out s ≡ walk xs (told out x) (pushed x.layer s)

@@ -1,3 +1,5 @@
 // The full walk of a recording.
+#![tactic(auto)]
+
 pub mod full;
 pub mod listed;

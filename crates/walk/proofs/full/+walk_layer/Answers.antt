@@ -1,5 +1,5 @@
 -- A turn goes by the node at i, `here`, and the two steps of `Walks`.
-use Rattle.std.proofs.Common.{◌-◌, ◌<◌, ◌≤◌, length, sym, ap, arith, length-set, rules}
+use Rattle.std.proofs.Common.{◌<◌, ◌≤◌, length, sym, ap, arith, length-set, rules}
 use Rattle.record.specs.Table.{holding}
 use Rattle.walk.specs.declared.listed.Listed.TheVariants.{Enter}
 use Rattle.walk.proofs.Tables.{here}

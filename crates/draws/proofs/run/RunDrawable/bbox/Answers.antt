@@ -1,4 +1,4 @@
-use Rattle.std.proofs.Common.{◌≡◌, ◌-◌, ◌<◌, ◌≤◌, min, length, take, drop, sym, ap, ◌∙◌, ap₂, arith}
+use Rattle.std.proofs.Common.{◌-◌, ◌<◌, ◌≤◌, min, length, take, drop, sym, ap, ◌∙◌, ap₂}
 use Rattle.std.proofs.lemmas.List.{take_all}
 use Rattle.draws.specs.Strips.{joined_to, strips_box}
 use Rattle.draws.specs.Boxes.{strips-more, part_cut}

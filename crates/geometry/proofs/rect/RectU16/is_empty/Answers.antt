@@ -1,4 +1,4 @@
-use Rattle.std.proofs.Common.{◌≡◌, false, leb, sym, rules}
+use Rattle.std.proofs.Common.{◌≡◌, false, leb}
 use Rattle.std.proofs.lemmas.Bool.{lt-leb}
 use Rattle.geometry.proofs.Edges.{empty-decides}
 use Rattle.geometry.proofs.rect.RectU16.is_empty.Goals as goal

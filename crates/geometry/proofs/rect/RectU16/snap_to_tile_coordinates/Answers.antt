@@ -1,4 +1,4 @@
-use Rattle.std.proofs.Common.{◌≡◌, true, false, ltb, Some, sym, refl, ap, ◌∙◌, ⊎_elim, arith}
+use Rattle.std.proofs.Common.{◌≡◌, true, false, ltb, Some, sym, ap, ◌∙◌, ⊎_elim}
 use Rattle.std.proofs.lemmas.Bool.{both_ways, or_left, or_right, or_from, lt-ltb, le-ltb}
 use Rattle.geometry.specs.Rect.{empty}
 use Rattle.geometry.specs.Snap.{beyond}
