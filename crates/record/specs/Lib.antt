@@ -1,5 +1,7 @@
 pub mod Table
 pub mod Nesting
+pub use Rattle.layers.specs.Opening
+pub use Rattle.layers.specs.Closing
 pub mod Account
 pub mod Tree
 pub mod Sound

@@ -9,3 +9,5 @@ pub mod record;
 pub mod recorder;
 pub mod tree;
 mod tree_calls;
+
+pub use layers::{layer, node, props};

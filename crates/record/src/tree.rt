@@ -4,6 +4,9 @@ ghost use Rattle.std.specs.Prelude.{◌≡◌, ◌≤◌, length};
 use layers::layer::RecordedLayer;
 use layers::node::Node;
 
+// Two for each of 256 layers at the most, and one more.
+pub const MAX_NODES: usize = 513;
+
 #[derive(Drop)]
 pub struct LayerTable {
     pub(crate) records: [RecordedLayer; 256],
@@ -14,7 +17,6 @@ pub struct LayerTable {
 
 #[derive(Drop)]
 pub struct Tree {
-    // Two for each of 256 layers at the most, and one more.
     pub(crate) nodes: [Node; 513],
     pub(crate) node_count: usize,
     pub(crate) layers: LayerTable,
