@@ -56,7 +56,7 @@ impl<D> Call<D> {
 
 // `WIDTH HEIGHT`
 fn read_reset<D: DrawLine>(words: &mut Words<'_>) -> Result<Call<D>, Reason>
-    ensures { Told (SaysCall Written verb.Reset) (left words.old) result (left words.new) }
+    ensures { Told (SaysCall D.Written verb.Reset) (left words.old) result (left words.new) }
 {
     let (width, height) = words.pair16()?;
     Ok(Call::Reset { width, height })
@@ -64,14 +64,14 @@ fn read_reset<D: DrawLine>(words: &mut Words<'_>) -> Result<Call<D>, Reason>
 
 // The words of a draw
 fn read_draw<D: DrawLine>(kind: Kind, words: &mut Words<'_>) -> Result<Call<D>, Reason>
-    ensures { Told (SaysCall Written (verb.Draw kind)) (left words.old) result (left words.new) }
+    ensures { Told (SaysCall D.Written (verb.Draw kind)) (left words.old) result (left words.new) }
 {
     Ok(Call::Draw(D::read(kind, words)?))
 }
 
 // All parts of an opening
 fn read_open<D: DrawLine>(words: &mut Words<'_>) -> Result<Call<D>, Reason>
-    ensures { Told (SaysCall Written verb.Open) (left words.old) result (left words.new) }
+    ensures { Told (SaysCall D.Written verb.Open) (left words.old) result (left words.new) }
 {
     let (props, filter) = read_opening(words)?;
     Ok(Call::Open { props, filter })
@@ -79,7 +79,7 @@ fn read_open<D: DrawLine>(words: &mut Words<'_>) -> Result<Call<D>, Reason>
 
 // `[room N]`
 fn read_walk<D: DrawLine>(words: &mut Words<'_>) -> Result<Call<D>, Reason>
-    ensures { Told (SaysCall Written verb.Walk) (left words.old) result (left words.new) }
+    ensures { Told (SaysCall D.Written verb.Walk) (left words.old) result (left words.new) }
 {
     let room = words.number32_after("room")?;
     Ok(Call::Walk { room })
@@ -101,7 +101,7 @@ fn read_surface(words: &mut Words<'_>) -> Result<Surface, Reason>
 
 // `scene COLUMN ROW [room N]`, or with the number of a layer
 fn read_tile_walk<D: DrawLine>(words: &mut Words<'_>) -> Result<Call<D>, Reason>
-    ensures { Told (SaysCall Written verb.Tile) (left words.old) result (left words.new) }
+    ensures { Told (SaysCall D.Written verb.Tile) (left words.old) result (left words.new) }
 {
     let surface = read_surface(words)?;
     let tile = read_tile(words)?;
@@ -115,7 +115,7 @@ fn read_tile_walk<D: DrawLine>(words: &mut Words<'_>) -> Result<Call<D>, Reason>
 
 // `COLUMN ROW`
 fn read_hit<D: DrawLine>(words: &mut Words<'_>) -> Result<Call<D>, Reason>
-    ensures { Told (SaysCall Written verb.Hit) (left words.old) result (left words.new) }
+    ensures { Told (SaysCall D.Written verb.Hit) (left words.old) result (left words.new) }
 {
     let tile = read_tile(words)?;
     Ok(Call::Hit { tile })
@@ -123,7 +123,7 @@ fn read_hit<D: DrawLine>(words: &mut Words<'_>) -> Result<Call<D>, Reason>
 
 // The call of a line, from the words after its verb.
 pub(crate) fn read_call<D: DrawLine>(verb: Verb, words: &mut Words<'_>) -> Result<Call<D>, Reason>
-    ensures { Told (SaysCall Written verb) (left words.old) result (left words.new) }
+    ensures { Told (SaysCall D.Written verb) (left words.old) result (left words.new) }
 {
     match verb {
         Verb::Reset => read_reset(words),

@@ -37,7 +37,7 @@ pub fn read_kind(words: &mut Words<'_>) -> Result<Kind, Reason>
 
 // What a line says that begins with this head, and perhaps more words after it.
 fn read_parts<D: DrawLine>(head: Head, words: &mut Words<'_>) -> Result<Entry<D>, Reason>
-    ensures { Told (SaysEntry Written head) (left words.old) result (left words.new) }
+    ensures { Told (SaysEntry D.Written head) (left words.old) result (left words.new) }
 {
     match head {
         Head::Kind => Ok(Entry::Kind(read_kind(words)?)),
@@ -49,7 +49,7 @@ fn read_parts<D: DrawLine>(head: Head, words: &mut Words<'_>) -> Result<Entry<D>
 
 // What all words of a line say, the first of which is `word`.
 fn read_words<D: DrawLine>(word: &str, mut words: Words<'_>) -> Result<Entry<D>, Reason>
-    ensures { MatchResult result (λ entry. SaysBy Written (head_of word.now) (left words.entry) entry) (λ _. (e : EntryOf D) → SaysBy Written (head_of word.now) (left words.entry) e → ⊥) }
+    ensures { MatchResult result (λ entry. SaysBy D.Written (head_of word.now) (left words.entry) entry) (λ _. (e : EntryOf D) → SaysBy D.Written (head_of word.now) (left words.entry) e → ⊥) }
 {
     let Some(head) = Head::read(word) else {
         return Err(Reason::UnknownWord);
@@ -78,7 +78,7 @@ pub fn words_of(bytes: &[u8]) -> Result<Option<(&str, Words<'_>)>, Reason>
 
 // What a line says; nothing where it is passed over.
 pub fn read_entry<D: DrawLine>(bytes: &[u8]) -> Result<Option<Entry<D>>, Reason>
-    ensures { ReadsLine Written bytes.now result }
+    ensures { ReadsLine D.Written bytes.now result }
 {
     let Some((word, words)) = words_of(bytes)? else {
         return Ok(None);

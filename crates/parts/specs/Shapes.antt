@@ -1,5 +1,5 @@
 -- What words are read as: strips, rectangles, tiles, blend modes and paddings.
-use Rattle.std.specs.Prelude.{◌≡◌, Some, codes, Option}
+use Rattle.std.specs.Prelude.{Some, codes, Option}
 use Rattle.geometry.specs.declared.padding.PaddingU16.{PaddingU16}
 use Rattle.geometry.specs.declared.rect.RectU16.{RectU16}
 use Rattle.geometry.specs.declared.tile.Tile.{Tile}

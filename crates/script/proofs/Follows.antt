@@ -1,5 +1,5 @@
 -- What a reading keeps from line to line.
-use Rattle.std.proofs.Common.{◌≡◌, ℕ, ◌+◌, List, [], ◌∷◌, sym, refl, subst, inl, inr}
+use Rattle.std.proofs.Common.{◌≡◌, ℕ, ◌+◌, List, [], ◌∷◌, refl, subst, inl, inr}
 use Rattle.script.specs.declared.fault.Unread.{Unread}
 use Rattle.script.specs.declared.fault.Unread.TheVariants.{Faulty, NoMemory}
 use Rattle.calls.specs.Calls.{Draws}

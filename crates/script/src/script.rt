@@ -56,7 +56,7 @@ fn checked_entry<D: DrawLine>(
     sheet: &Sheet<D>,
     line: TextLine<'_>,
 ) -> Result<Option<(u32, Entry<D>)>, Reason>
-    ensures { MatchResult result (λ said. IsUtf8 line.entry.bytes.now × MatchOption said (PassedOver (words_of line.entry.bytes.now)) (λ p. (p.0 ≡ line.entry.number) × SaysAll Written (words_of line.entry.bytes.now) p.1 × (allowed (view_of sheet.now) p.1 ≡ true) × (line.entry.number < 2 ^ 32))) (λ _. LineFaulty Written (view_of sheet.now) line.entry.number line.entry.bytes.now) }
+    ensures { MatchResult result (λ said. IsUtf8 line.entry.bytes.now × MatchOption said (PassedOver (words_of line.entry.bytes.now)) (λ p. (p.0 ≡ line.entry.number) × SaysAll D.Written (words_of line.entry.bytes.now) p.1 × (allowed (view_of sheet.now) p.1 ≡ true) × (line.entry.number < 2 ^ 32))) (λ _. LineFaulty D.Written (view_of sheet.now) line.entry.number line.entry.bytes.now) }
 {
     let Some(entry) = read_entry(line.bytes)? else {
         return Ok(None);
@@ -70,7 +70,7 @@ fn checked_entry<D: DrawLine>(
 
 // Adds what a line says to the sheet.
 fn read_line<D: DrawLine>(sheet: &mut Sheet<D>, line: TextLine<'_>) -> Result<(), Unread>
-    ensures { MatchResult result (λ _. LineLeads Written (view_of sheet.old) line.entry.number line.entry.bytes.now (view_of sheet.new)) (λ unread. StopsAt Written (view_of sheet.old) line.entry.number line.entry.bytes.now unread) }
+    ensures { MatchResult result (λ _. LineLeads D.Written (view_of sheet.old) line.entry.number line.entry.bytes.now (view_of sheet.new)) (λ unread. StopsAt D.Written (view_of sheet.old) line.entry.number line.entry.bytes.now unread) }
 {
     match checked_entry(sheet, line) {
         Ok(Some((number, entry))) => sheet.add(number, entry)?,
@@ -85,7 +85,7 @@ fn read_line<D: DrawLine>(sheet: &mut Sheet<D>, line: TextLine<'_>) -> Result<()
 
 // The sheet as its lines give it, one after another.
 fn read_sheet<D: DrawLine>(heap: Global, bytes: &[u8]) -> Result<Sheet<D>, Unread>
-    ensures { MatchResult result (λ sheet. Leads Written start 0 (lines_of bytes.now) (view_of sheet)) (λ unread. Stopped Written (lines_of bytes.now) unread) }
+    ensures { MatchResult result (λ sheet. Leads D.Written start 0 (lines_of bytes.now) (view_of sheet)) (λ unread. Stopped D.Written (lines_of bytes.now) unread) }
 {
     let mut sheet = Sheet::new(heap);
     for line in Lines::new(bytes) {

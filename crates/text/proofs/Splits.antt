@@ -1,6 +1,6 @@
 -- How a line falls into words.
-use Rattle.std.proofs.Common.{◌≡◌, ℕ, suc, ◌+◌, ◌<◌, ◌≤◌, Bool, true, false, cond, ◌||◌, eqb, ◌⊎◌, List, [], ◌∷◌, ◌++◌, length, get_or, take, drop, IfSome, Some, None, Option, sym, refl, ap, ◌∙◌, subst, inl, inr, ⊎_elim, append_assoc, append-nil, arith, take-append-drop}
-use lib.Utf8.{scalar, encode}
+use Rattle.std.proofs.Common.{◌≡◌, ℕ, suc, ◌<◌, Bool, true, false, ◌||◌, eqb, ◌⊎◌, List, [], ◌∷◌, ◌++◌, length, get_or, take, drop, IfSome, Some, None, Option, sym, refl, ap, ◌∙◌, inl, inr, ⊎_elim, append_assoc, append-nil, arith, take-append-drop}
+use lib.Utf8.{scalar}
 use Rattle.std.specs.Char.{char_set_contains}
 use Rattle.std.specs.Str.Pattern.{HasPassingCharAt, FindsBy, FindsPrefixBy, CutsPrefixes, IsTrimStartMatches}
 use Rattle.std.specs.Str.{NoCharPasses}

@@ -17,9 +17,6 @@ module _ {A : Type 0} (reader : Line → Read A) (before : Line) where
   pub sole-by : (a : A) (after : Line) → reader before ≡ Some (a, after) → Sole (By reader) before a after
   sole-by a after e = (e, λ b rest f. ap (rest_or after) (sym f ∙ e))
 
-  pub mute-by : reader before ≡ None → Mute (By reader) before
-  mute-by none b rest e = none≢some none e
-
 module _ {A B : Type 0} (says : Line → A → Line → Type 0) (make : A → B) (before : Line) where
   pub sole-making : (a : A) (after : Line) → Sole says before a after → Sole (Making says make) before (make a) after
   sole-making a after (is, sole) = ((a, is, refl), λ b rest made. sole made.0 rest made.1)

@@ -1,4 +1,6 @@
 // The text of a script: its lines, their words, and the numbers that words write.
+#![tactic(auto)]
+
 pub mod lines;
 mod numbers;
 pub mod reason;

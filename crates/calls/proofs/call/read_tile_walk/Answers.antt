@@ -1,4 +1,4 @@
-use Rattle.std.proofs.Common.{◌≡◌, ℕ, Some, Option, refl}
+use Rattle.std.proofs.Common.{◌≡◌, ℕ, Some, Option}
 use Rattle.geometry.specs.declared.tile.Tile.{Tile}
 use Rattle.text.specs.Readers.{Line, left, By}
 use Rattle.tiles.specs.declared.surface.Surface.{Surface}
@@ -10,7 +10,7 @@ use Rattle.calls.proofs.call.read_tile_walk.Goals as goal
 pub returns : goal.returns
 returns g c =
     let before : Line = left c.args.words.now in
-    let after : Line = left c.number32-after.new.self in
-    let said : Surface × Tile × Option ℕ = (c.in-ok-surface.surface, c.in-ok-tile.tile, c.in-ok-room.room) in
-    let read : tile_call_of before ≡ Some (said, after) = rw (c.in-ok-surface.ensures, c.in-ok-tile.ensures, c.in-ok-room.ensures) in
+    let after : Line = left c.number32_after.new.self in
+    let said : Surface × Tile × Option ℕ = (c.in_ok-surface.surface, c.in_ok-tile.tile, c.in_ok-room.room) in
+    let read : tile_call_of before ≡ Some (said, after) = rw (c.in_ok-surface.ensures, c.in_ok-tile.ensures, c.in_ok-room.ensures) in
     sole-making (By tile_call_of) (λ t. call.Tile t.0 t.1 t.2) before said after (sole-by tile_call_of before said after read)

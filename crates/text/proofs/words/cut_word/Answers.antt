@@ -1,4 +1,4 @@
-use Rattle.std.proofs.Common.{sym, arith}
+use Rattle.std.proofs.Common.{arith}
 use Rattle.text.proofs.Splits.{cut_at, uncut}
 use Rattle.text.proofs.words.cut_word.Goals as goal
 

@@ -2,10 +2,10 @@ use Rattle.std.proofs.Common.{codes, refl}
 use Rattle.text.proofs.Starts.{differs}
 use Rattle.calls.proofs.head.Head.read.Goals as goal
 
-pub returns-in-default : goal.returns-in-default
-returns-in-default c =
+pub returns-in_default : goal.returns-in_default
+returns-in_default c =
     let word = c.args.word.now in
-    let no = c.in-default in
+    let no = c.in_default in
     rw (
       differs word (codes "kind") no.not-kind,
       differs word (codes "strip") no.not-strip,

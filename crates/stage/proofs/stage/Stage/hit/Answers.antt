@@ -5,17 +5,17 @@ use Rattle.tiles.specs.declared.surface.Surface.TheVariants.{Scene}
 use Rattle.stage.proofs.Listings.{hit-within, line_at}
 use Rattle.stage.proofs.stage.Stage.hit.Goals as goal
 
-pub returns-in-default : goal.returns-in-default
-returns-in-default g c =
-    let (asked, any) = c.in-ok-number.ensures.none in
-    (asked, sym any ∙ ap is_some c.in-default.is)
+pub returns-in_default : goal.returns-in_default
+returns-in_default g c =
+    let (asked, any) = c.in_ok-number.ensures.none in
+    (asked, sym any ∙ ap is_some c.in_default.is)
 
 -- the draw that was hit stands in the tile's list, and so in the draw list
-pub offset-bounds-draws-number : goal.offset-bounds-draws-number
-offset-bounds-draws-number g c =
+pub offset_bounds-draws-number : goal.offset_bounds-draws-number
+offset_bounds-draws-number g c =
     let x = c.args.self.now.design in
     let ds = vec_items x.draws in
-    let below = hit-within (λ d. g.D.Drawable.box_of d.draw x.strips.now) Scene c.args.tile ds (recording x.recorder) c.in-Some.number (MatchOption-at_some _ _ _ c.in-Some.is c.in-ok-number.ensures.some.1) in
+    let below = hit-within (λ d. g.D.Drawable.box_of d.draw x.strips.now) Scene c.args.tile ds (recording x.recorder) c.in-Some.number (MatchOption-at_some _ _ _ c.in-Some.is c.in_ok-number.ensures.some.1) in
     let same = ap length c.draws.ensures in
     omega arith
 
@@ -23,7 +23,7 @@ pub bounds-draws-number : goal.bounds-draws-number
 bounds-draws-number g c =
     let x = c.args.self.now.design in
     let ds = vec_items x.draws in
-    let below = hit-within (λ d. g.D.Drawable.box_of d.draw x.strips.now) Scene c.args.tile ds (recording x.recorder) c.in-Some.number (MatchOption-at_some _ _ _ c.in-Some.is c.in-ok-number.ensures.some.1) in
+    let below = hit-within (λ d. g.D.Drawable.box_of d.draw x.strips.now) Scene c.args.tile ds (recording x.recorder) c.in-Some.number (MatchOption-at_some _ _ _ c.in-Some.is c.in_ok-number.ensures.some.1) in
     let same = ap length c.draws.ensures in
     omega arith
 
@@ -31,7 +31,7 @@ pub bounds-draws-number-in-Some : goal.bounds-draws-number-in-Some
 bounds-draws-number-in-Some g c =
     let x = c.args.self.now.design in
     let ds = vec_items x.draws in
-    let below = hit-within (λ d. g.D.Drawable.box_of d.draw x.strips.now) Scene c.args.tile ds (recording x.recorder) c.in-Some.number (MatchOption-at_some _ _ _ c.in-Some.is c.in-ok-number.ensures.some.1) in
+    let below = hit-within (λ d. g.D.Drawable.box_of d.draw x.strips.now) Scene c.args.tile ds (recording x.recorder) c.in-Some.number (MatchOption-at_some _ _ _ c.in-Some.is c.in_ok-number.ensures.some.1) in
     let same = ap length c.draws.ensures in
     omega arith
 
@@ -39,9 +39,9 @@ pub returns : goal.returns
 returns g c =
     let x = c.args.self.now.design in
     let ds = vec_items x.draws in
-    let below = hit-within (λ d. g.D.Drawable.box_of d.draw x.strips.now) Scene c.args.tile ds (recording x.recorder) c.in-Some.number (MatchOption-at_some _ _ _ c.in-Some.is c.in-ok-number.ensures.some.1) in
+    let below = hit-within (λ d. g.D.Drawable.box_of d.draw x.strips.now) Scene c.args.tile ds (recording x.recorder) c.in-Some.number (MatchOption-at_some _ _ _ c.in-Some.is c.in_ok-number.ensures.some.1) in
     let same = ap length c.draws.ensures in
     let lt : c.in-Some.number < length c.draws.result.now = omega arith in (
-      c.in-ok-number.ensures.some.0,
-      (MatchOption-at_some _ _ _ c.in-Some.is c.in-ok-number.ensures.some.1, line_at c.draws.result.now ds c.in-Some.number _ c.draws.ensures lt),
+      c.in_ok-number.ensures.some.0,
+      (MatchOption-at_some _ _ _ c.in-Some.is c.in_ok-number.ensures.some.1, line_at c.draws.result.now ds c.in-Some.number _ c.draws.ensures lt),
     )

@@ -15,14 +15,14 @@ returns-in-Ok g c =
     let s = c.args.surface in
     let t = c.args.tile in
     let seen = seen_by g.D.Drawable.box_of x.strips.now t (vec_items x.draws) in
-    let out = c.as-mut-slice.result.now in
+    let out = c.as_mut_slice.result.now in
     let (asked, walked) = c.in-Ok.ensures.walked in
-    let places : length out ≡ min (entry_count v) (unwrap_or c.args.room (entry_count v)) = c.as-mut-slice.ensures.len ∙ c.in-ok-entries.ensures.len ∙ c.walk-places.ensures in
+    let places : length out ≡ min (entry_count v) (unwrap_or c.args.room (entry_count v)) = c.as_mut_slice.ensures.len ∙ c.in_ok-entries.ensures.len ∙ c.walk_places.ensures in
     let list = tile_listed s t seen v in
     let fits : length list ≤ length out = leb-true (length list) (length out) (last-yes (surface_questions s t v (vec_len x.draws)) (leb (length list) (length out)) 11 asked) in
-    let kept = tile-kept c.in-Ok.count out c.tile-walk.new.out fits walked in (
+    let kept = tile-kept c.in-Ok.count out c.tile_walk.new.out fits walked in (
       sym (tile-asked x.recorder s t seen (vec_len x.draws) (length out) (unwrap_or c.args.room (entry_count v)) places) ∙ asked,
-      c.truncate.ensures.items ∙ ap (take c.in-Ok.count) (with_items_is c.in-ok-entries.entries c.tile-walk.new.out (kept.0 ∙ c.as-mut-slice.ensures.len)) ∙ kept.1,
+      c.truncate.ensures.items ∙ ap (take c.in-Ok.count) (with_items_is c.in_ok-entries.entries c.tile_walk.new.out (kept.0 ∙ c.as_mut_slice.ensures.len)) ∙ kept.1,
     )
 
 pub returns-in-Err : goal.returns-in-Err
@@ -30,5 +30,5 @@ returns-in-Err g c =
     let x = c.args.self.now.design in
     let v = recording x.recorder in
     let seen = seen_by g.D.Drawable.box_of x.strips.now c.args.tile (vec_items x.draws) in
-    let places : length c.as-mut-slice.result.now ≡ min (entry_count v) (unwrap_or c.args.room (entry_count v)) = c.as-mut-slice.ensures.len ∙ c.in-ok-entries.ensures.len ∙ c.walk-places.ensures in
+    let places : length c.as_mut_slice.result.now ≡ min (entry_count v) (unwrap_or c.args.room (entry_count v)) = c.as_mut_slice.ensures.len ∙ c.in_ok-entries.ensures.len ∙ c.walk_places.ensures in
     (sym (tile-asked x.recorder c.args.surface c.args.tile seen (vec_len x.draws) _ _ places) ∙ c.in-Err.ensures.walked.0, tt)

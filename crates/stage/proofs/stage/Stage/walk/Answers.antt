@@ -9,9 +9,9 @@ pub returns-in-Ok : goal.returns-in-Ok
 returns-in-Ok g c =
     let r : Recording = recording c.args.self.now.design.recorder in
     let (asked, walked) = c.in-Ok.ensures.walked in
-    let out = c.as-mut-slice.result.now in
-    let kept = walk_kept r c.in-Ok.count out c.full-walk.new.out (walk-fits r (length out) asked) walked in
-    let places : length out ≤ unwrap_or c.args.room (entry_count r) = omega (arith, c.as-mut-slice.ensures.len, c.in-ok-entries.ensures.len, c.walk-places.ensures) in (
+    let out = c.as_mut_slice.result.now in
+    let kept = walk_kept r c.in-Ok.count out c.full_walk.new.out (walk-fits r (length out) asked) walked in
+    let places : length out ≤ unwrap_or c.args.room (entry_count r) = omega (arith, c.as_mut_slice.ensures.len, c.in_ok-entries.ensures.len, c.walk_places.ensures) in (
       walk_more r (length out) (unwrap_or c.args.room (entry_count r)) places asked,
-      c.truncate.ensures.items ∙ ap (take c.in-Ok.count) (with_items_is c.in-ok-entries.entries c.full-walk.new.out (kept.0 ∙ c.as-mut-slice.ensures.len)) ∙ kept.1,
+      c.truncate.ensures.items ∙ ap (take c.in-Ok.count) (with_items_is c.in_ok-entries.entries c.full_walk.new.out (kept.0 ∙ c.as_mut_slice.ensures.len)) ∙ kept.1,
     )
