@@ -2,8 +2,8 @@
 ghost use Rattle.std.specs.Prelude.{◌≡◌, true, [], ◌∷◌};
 ghost use Rattle.geometry.specs.Snap.{snapped};
 ghost use Rattle.refusal.specs.Refusals.{Answers};
+ghost use Rattle.draws.specs.Boxes.{snapped-on-tiles};
 ghost use Rattle.draws.specs.Fits.{fits};
-ghost use Rattle.std.proofs.Common.{rules, arith};
 
 use crate::blend::BlendMode;
 use crate::drawable::Drawable;
@@ -43,7 +43,7 @@ impl Drawable for Fill {
 
     ghost mode_of = { λ f. f.blend_mode };
 
-    ghost on_tiles = { first_of (Prim.search rules, Prim.grind (arith, Self.row.coded.inj)) };
+    ghost on_tiles = { λ f strips. snapped-on-tiles f.rect };
 
     fn bbox(&self, _strips: &[Strip]) -> Option<RectU16> {
         self.rect.snap_to_tile_coordinates()

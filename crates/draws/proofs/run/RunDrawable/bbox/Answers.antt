@@ -1,7 +1,7 @@
 use Rattle.std.proofs.Common.{◌-◌, ◌<◌, ◌≤◌, min, length, take, drop, sym, ap, ◌∙◌, ap₂}
 use Rattle.std.proofs.lemmas.List.{take_all}
 use Rattle.draws.specs.Strips.{joined_to, strips_box}
-use Rattle.draws.specs.Boxes.{strips-more, part_cut}
+use Rattle.draws.proofs.Loops.{strips-more, part_cut}
 use Rattle.draws.proofs.run.RunDrawable.bbox.Goals as goal
 
 pub loop-strip-preserved : goal.loop-strip-preserved
