@@ -23,7 +23,7 @@ use Rattle.ledger.specs.declared.call.Answer.{Answer}
 use Rattle.ledger.specs.declared.call.Answer.TheVariants as answer
 use Rattle.ledger.specs.declared.call.Call.{Call}
 use Rattle.ledger.specs.declared.call.Call.TheVariants as call
-use Rattle.ledger.specs.Laws.{Each, Stands, Nesting, Led, LedAlways}
+use Rattle.ledger.specs.Laws.{Each, Stands, Led, LedAlways}
 use Rattle.geometry.specs.declared.tile.Tile.{Tile}
 use Rattle.layers.specs.declared.layer.RecordedLayer.{RecordedLayer}
 use Rattle.tiles.specs.declared.surface.Surface.{Surface}

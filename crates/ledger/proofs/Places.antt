@@ -1,16 +1,14 @@
 -- Every layer's record stands at its number, and so does its placement.
-use Rattle.std.proofs.Common.{◌≡◌, ℕ, suc, ◌+◌, false, List, [], ◌∷◌, ◌++◌, length, Some, None, Option, sym, refl, ◌∙◌, subst, ap₂, append_assoc, arith, length-append}
+use Rattle.std.proofs.Common.{◌≡◌, ℕ, suc, ◌+◌, List, [], ◌∷◌, ◌++◌, length, Some, None, Option, sym, refl, ◌∙◌, subst, ap₂, append_assoc, arith, length-append}
 use Rattle.std.specs.List.{slice_get}
 use Rattle.geometry.specs.declared.rect.RectU16.{RectU16}
-use Rattle.geometry.specs.Rect.{empty}
 use Rattle.filter.specs.declared.data.FilterData.{FilterData}
 use Rattle.filter.specs.declared.placement.FilterLayerPlacement.{FilterLayerPlacement}
-use Rattle.filter.specs.Placement.{Lies, unplaced}
-use Rattle.layers.specs.declared.layer.ClosedLayer.{ClosedLayer}
+use Rattle.filter.specs.Placement.{Lies}
 use Rattle.layers.specs.declared.layer.RecordedLayer.{RecordedLayer}
 use Rattle.layers.specs.Records.{recorded_open, open_kind, placed_kind}
 use Rattle.ledger.specs.Ledger.{Opening}
-use Rattle.ledger.specs.Sheet.{Sheet, end, draw, layer, joined, closed_as, contents, layer_record, records, placement_or, LiesKind, LiesBy, LiesRecorded, Placed, PlacedRecorded}
+use Rattle.ledger.specs.Sheet.{Sheet, end, draw, layer, joined, closed_as, contents, layer_record, records, placement_or, LiesKind, LiesBy, LiesByRecord, Placed, PlacedByRecord}
 use Rattle.ledger.specs.Draft.{Frame, frame, AllPlaced}
 use Rattle.ledger.specs.Recorded.{records_of}
 use Rattle.ledger.proofs.Sheets.{size, Ordered, AllOrdered, Counts, length-records}
@@ -66,17 +64,17 @@ module _ {D : Type 0} (box_of : D → Option RectU16) where
         ),
       )
 
-  lies-record : (depth : ℕ) (o : Opening) (inside : Sheet D) (f : Option FilterData) (c : Option RectU16) → o.filter ≡ f → contents box_of inside ≡ c → LiesBy f c (closed_as o (contents box_of inside)) → LiesRecorded f c (Some (layer_record box_of depth o inside))
+  lies-record : (depth : ℕ) (o : Opening) (inside : Sheet D) (f : Option FilterData) (c : Option RectU16) → o.filter ≡ f → contents box_of inside ≡ c → LiesBy f c (closed_as o (contents box_of inside)) → LiesByRecord f c (Some (layer_record box_of depth o inside))
   lies-record depth o inside None c e g l = tt
   lies-record depth o inside (Some f) None e g l = tt
   lies-record depth o inside (Some f) (Some c) e g l = λ full.
       subst (λ z. LiesKind c f (placed_kind (closed_as o (contents box_of inside)).placement (open_kind z))) (sym e) (lies-kind f c (closed_as o (contents box_of inside)).placement (l full))
 
-  placed_at : (table : List RecordedLayer) (depth : ℕ) (x : Sheet D) → RecordsAt table depth x → Placed box_of x → PlacedRecorded box_of table x
+  placed_at : (table : List RecordedLayer) (depth : ℕ) (x : Sheet D) → RecordsAt table depth x → Placed box_of x → PlacedByRecord box_of table x
   placed_at table depth end r l = tt
   placed_at table depth (draw n d rest) r l = placed_at table depth rest r l
   placed_at table depth (layer n o inside rest) r l = (
-    subst (LiesRecorded o.filter (contents box_of inside)) (sym r.0) (lies-record depth o inside o.filter (contents box_of inside) refl refl l.0),
+    subst (LiesByRecord o.filter (contents box_of inside)) (sym r.0) (lies-record depth o inside o.filter (contents box_of inside) refl refl l.0),
     (placed_at table (depth + 1) inside r.1.0 l.1.0, placed_at table depth rest r.1.1 l.1.1),
   )
 

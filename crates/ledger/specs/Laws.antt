@@ -48,7 +48,7 @@ pub record Led {D : Type 0} (box_of : D → Option RectU16) (mode_of : D → Opt
   -- and layers, destinations and tile lists are those that the ledger's nesting gives
   pub nests : opened b.entries ≡ [] → Nesting box_of b.entries r ds
 
--- The same, with more that holds at any time: said of the ledger's own nesting, with layers open too, and without the rules of the calls.
+-- The same by the ledger's own nesting and without the rules of the calls, with more that holds while layers are open.
 pub record LedAlways {D : Type 0} (box_of : D → Option RectU16) (mode_of : D → Option BlendMode) (b : Ledger D) (r : Recording) (ds : List D) : Type 0 where
   -- at any time the nesting has the ledger's entries, in order,
   pub nests : entries_of (draft_of b.entries) ≡ b.entries

@@ -42,7 +42,7 @@ or_nothing (Some k) = k
 abbrev pub closed_as : Opening → Option RectU16 → ClosedLayer
 closed_as o c = or_nothing (closing_by o.filter (clip_box o.props.clip_path) c)
 
--- an absent placement counts as one that places nothing
+-- an absent placement counts as the one without contents
 abbrev pub placement_or : Option FilterLayerPlacement → FilterLayerPlacement
 placement_or None = unplaced
 placement_or (Some p) = p
@@ -64,10 +64,10 @@ LiesRecord c f None = ⊥
 LiesRecord c f (Some x) = LiesKind c f x.kind
 
 -- the same where there is a filter, and contents that are not empty
-abbrev pub LiesRecorded : Option FilterData → Option RectU16 → Option RecordedLayer → Type 0
-LiesRecorded None c x = Unit {0}
-LiesRecorded (Some f) None x = Unit {0}
-LiesRecorded (Some f) (Some c) x = empty c ≡ false → LiesRecord c f x
+abbrev pub LiesByRecord : Option FilterData → Option RectU16 → Option RecordedLayer → Type 0
+LiesByRecord None c x = Unit {0}
+LiesByRecord (Some f) None x = Unit {0}
+LiesByRecord (Some f) (Some c) x = empty c ≡ false → LiesRecord c f x
 
 module _ {D : Type 0} (box_of : D → Option RectU16) where
   -- the boxes put into contents c, one after another: a draw's own, and what a layer hands on once it is closed
@@ -104,8 +104,8 @@ module _ {D : Type 0} (box_of : D → Option RectU16) where
   Placed (layer n o inside rest) = LiesBy o.filter (contents inside) (closed_as o (contents inside)) × (Placed inside × Placed rest)
 
   -- the same by each layer's record in the table, which is that of a filter layer with the filter it was opened with
-  abbrev pub PlacedRecorded : List RecordedLayer → Sheet D → Type 0
-  PlacedRecorded table end = Unit {0}
-  PlacedRecorded table (draw n d rest) = PlacedRecorded table rest
-  PlacedRecorded table (layer n o inside rest) =
-      LiesRecorded o.filter (contents inside) (slice_get table n) × (PlacedRecorded table inside × PlacedRecorded table rest)
+  abbrev pub PlacedByRecord : List RecordedLayer → Sheet D → Type 0
+  PlacedByRecord table end = Unit {0}
+  PlacedByRecord table (draw n d rest) = PlacedByRecord table rest
+  PlacedByRecord table (layer n o inside rest) =
+      LiesByRecord o.filter (contents inside) (slice_get table n) × (PlacedByRecord table inside × PlacedByRecord table rest)
