@@ -15,8 +15,7 @@ use Rattle.layers.specs.declared.layer.OpenLayer.{OpenLayer}
 use Rattle.record.specs.Account.{AccountView, close_questions, closing_of, at_root, innermost_pads}
 use Rattle.layers.specs.Opening.{clip_box}
 use Rattle.ledger.specs.Ledger.{Opening}
-use Rattle.ledger.specs.Sheet.{closed_as, or_nothing}
-use Rattle.ledger.proofs.Places.{LaidBy, placement_or}
+use Rattle.ledger.specs.Sheet.{closed_as, or_nothing, placement_or, LiesBy}
 use Rattle.layers.specs.Closing.{closing_by, closed_filter, closed_placed, or_zero, pads_within}
 
 -- a layer that is open and closes
@@ -67,10 +66,10 @@ closes a e = go a.opened e
         (cases_Bool (pads_within o.filter o.contents))
 
 -- the destination of a filter layer that closes
-pub closed-lies : (o : Opening) (c : Option RectU16) → pads_within o.filter c ≡ true → LaidBy o.filter c (closed_as o c)
+pub closed-lies : (o : Opening) (c : Option RectU16) → pads_within o.filter c ≡ true → LiesBy o.filter c (closed_as o c)
 closed-lies o c e = go o.filter c e
   where
-    go : (f : Option FilterData) (c' : Option RectU16) → pads_within f c' ≡ true → LaidBy f c' (or_nothing (closing_by f (clip_box o.props.clip_path) c'))
+    go : (f : Option FilterData) (c' : Option RectU16) → pads_within f c' ≡ true → LiesBy f c' (or_nothing (closing_by f (clip_box o.props.clip_path) c'))
     go None c' p = tt
     go (Some f) None p = tt
     go (Some f) (Some b) p = λ full. let q = placed-full f b full (rw full at p) in subst (λ z. Lies b f (placement_or (or_nothing (closed_placed z)).placement)) (sym q.0) q.1

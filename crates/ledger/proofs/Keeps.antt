@@ -23,7 +23,7 @@ use Rattle.ledger.specs.declared.call.Answer.{Answer}
 use Rattle.ledger.specs.declared.call.Answer.TheVariants as answer
 use Rattle.ledger.specs.declared.call.Call.{Call}
 use Rattle.ledger.specs.declared.call.Call.TheVariants as call
-use Rattle.ledger.specs.Laws.{Each, Stands, Led}
+use Rattle.ledger.specs.Laws.{Each, Stands, Led, LedAlways}
 use Rattle.geometry.specs.declared.tile.Tile.{Tile}
 use Rattle.layers.specs.declared.layer.RecordedLayer.{RecordedLayer}
 use Rattle.tiles.specs.declared.surface.Surface.{Surface}
@@ -38,9 +38,9 @@ use Rattle.ledger.proofs.Sheets.{size, Ordered, length-records}
 use Rattle.ledger.proofs.Surfaces.{locate}
 use Rattle.ledger.proofs.Tiles.{scene-kept}
 use Rattle.ledger.specs.Made.{Made, after_call, written, draw_list}
-use Rattle.ledger.specs.Runs.{questions, AnsweredBy, Answered, AllAnswered}
+use Rattle.ledger.specs.Runs.{after_entry, recorded_from, recorded, questions, AnsweredBy, Answered, AllAnswered}
 use Rattle.ledger.specs.Draft.{draft_of, sheet_of}
-use Rattle.ledger.specs.Recorded.{none, numbered, opening_mode, depth_at, layer_blends, deepest_from, filter_numbers, mode_in, root_blends, records_of, recorded}
+use Rattle.ledger.specs.Recorded.{none, numbered, opening_mode, depth_at, layer_blends, deepest_from, filter_numbers, mode_in, root_blends, records_of, recording_for}
 use Rattle.ledger.proofs.Figures.{filter_in-push, filter-append, filter-opened, filter-changed, or-false, and-false, blends-push, root-push, deepest-push, filters-push}
 use Rattle.ledger.proofs.Closes.{Closes, closes}
 use Rattle.ledger.proofs.Ledgers.{draws-push, layers-push, open-push, each-push, each-weaker, StandsBefore, stands_on, stands-new, stands_plain, ledger-push}
@@ -72,6 +72,7 @@ module _ {D : Type 0} (box_of : D → Option RectU16) (mode_of : D → Option Bl
 
   -- the entries es, since a reset to the scene, led to the recording v and the draw list ds
   pub record Keeps (scene : SizeU16) (es : List (Entry D)) (v : Recording) (ds : List D) : Type 0 where
+    pub is : v ≡ recorded_from box_of mode_of (empty_recording scene) es
     pub figures : Figures scene es v
     pub shown : Shown (numbers es) v.tree.nodes (ids v.account.opened) v.account.layers
     pub threads : Threads v.tree.nodes (ids v.account.opened) v.account.drawn v.account.layers
@@ -83,6 +84,7 @@ module _ {D : Type 0} (box_of : D → Option RectU16) (mode_of : D → Option Bl
 
   pub keeps-none : (scene : SizeU16) (ds : List D) → Keeps scene [] (empty_recording scene) ds
   keeps-none scene ds = record {
+    is = refl;
     figures = record { scene-is = refl; root_target = refl; blends = refl; deepest = refl; filters = refl; surfaces = λ l. refl };
     shown = shown-none;
     threads = record { chained = tt; ends = refl; holds = refl; numbered = tt; found = tt; inside = refl; falls = tt };
@@ -94,13 +96,13 @@ module _ {D : Type 0} (box_of : D → Option RectU16) (mode_of : D → Option Bl
   }
 
   -- the recording is the ledger's
-  same-recording : (b : Ledger D) (v : Recording) (ds : List D) → Keeps b.scene b.entries v ds → v ≡ recorded box_of mode_of b
+  same-recording : (b : Ledger D) (v : Recording) (ds : List D) → Keeps b.scene b.entries v ds → v ≡ recording_for box_of mode_of b
   same-recording b v ds w =
       let f = w.figures in
       let n = w.nested in
-      same-fields v (recorded box_of mode_of b)
-      (same-account v.account (recorded box_of mode_of b).account f.scene-is n.opened (sym w.draws) (sym w.layers) f.root_target f.blends f.deepest n.largest n.largest_filter)
-      (same-tree v.tree (recorded box_of mode_of b).tree n.nodes n.layers f.filters)
+      same-fields v (recording_for box_of mode_of b)
+      (same-account v.account (recording_for box_of mode_of b).account f.scene-is n.opened (sym w.draws) (sym w.layers) f.root_target f.blends f.deepest n.largest n.largest_filter)
+      (same-tree v.tree (recording_for box_of mode_of b).tree n.nodes n.layers f.filters)
 
   length_ids : (os : List OpenLayer) → length (ids os) ≡ length os
   length_ids [] = refl
@@ -114,10 +116,18 @@ module _ {D : Type 0} (box_of : D → Option RectU16) (mode_of : D → Option Bl
   filter-new None l ns = append-nil ns
   filter-new (Some f) l ns = refl
 
+  recorded-push : (r : Recording) (es : List (Entry D)) (e : Entry D) → recorded_from box_of mode_of r (es ++ (e ∷ [])) ≡ after_entry box_of mode_of e (recorded_from box_of mode_of r es)
+  recorded-push r [] e = refl
+  recorded-push r (x ∷ es) e = recorded-push (after_entry box_of mode_of x r) es e
+
   numbers-push : (es : List (Entry D)) (e : Entry D) → numbers (es ++ (e ∷ [])) ≡ numbers es ++ (number e ∷ [])
   numbers-push es e = map_push number es e
 
   module _ (scene : SizeU16) (es : List (Entry D)) (v : Recording) (ds : List D) (w : Keeps scene es v ds) where
+    -- the rules make of the next entry what the call does
+    now-is : (e : Entry D) → after_entry box_of mode_of e v ≡ recorded_from box_of mode_of (empty_recording scene) (es ++ (e ∷ []))
+    now-is e = ap (after_entry box_of mode_of e) w.is ∙ sym (recorded-push (empty_recording scene) es e)
+
     -- whether the root is what the next entry blends into
     root-next : (e : Entry D) → (v.account.root_target || (at_root v.account.opened && blending (mode_in mode_of e))) ≡ root_blends mode_of [] (es ++ (e ∷ []))
     root-next e =
@@ -151,6 +161,7 @@ module _ {D : Type 0} (box_of : D → Option RectU16) (mode_of : D → Option Bl
         let stood = each-weaker (StandsBefore n ds) (StandsBefore (n + 1) (set ds n d)) (stands_on n ds d) es w.stands in
         let deep = deepest-next e in
         record {
+          is = now-is e;
           figures = record {
             scene-is = w.figures.scene-is;
             root_target = root-next e;
@@ -181,6 +192,7 @@ module _ {D : Type 0} (box_of : D → Option RectU16) (mode_of : D → Option Bl
         (λ j. shown-layer (numbers es) s l n t w.shown) in
         let deep = deepest-next e in
         record {
+          is = now-is e;
           figures = record {
             scene-is = w.figures.scene-is;
             root_target = root-next e;
@@ -218,6 +230,7 @@ module _ {D : Type 0} (box_of : D → Option RectU16) (mode_of : D → Option Bl
         let here : closed es (opened es) ≡ es ++ (e ∷ []) = ap (closed es) (w.unclosed ∙ was) in
         let deep = deepest-next e in
         let keeps : Keeps scene (es ++ (e ∷ [])) u ds = record {
+          is = sym q ∙ now-is e;
           figures = record {
             scene-is = w.figures.scene-is;
             root_target = sym (ap (λ x. v.account.root_target || x) (and-false (at_root v.account.opened)) ∙ or-false v.account.root_target) ∙ root-next e;
@@ -320,8 +333,8 @@ module _ {D : Type 0} (box_of : D → Option RectU16) (mode_of : D → Option Bl
   surface-is b v ds w (surfaces.Layer l) = w.figures.surfaces l
 
   -- what is promised of a run
-  pub keeps-led : (b : Ledger D) (v : Recording) (ds : List D) → Keeps b.scene b.entries v ds → Led box_of mode_of b v ds
-  keeps-led b v ds w =
+  pub keeps-always : (b : Ledger D) (v : Recording) (ds : List D) → Keeps b.scene b.entries v ds → LedAlways box_of mode_of b v ds
+  keeps-always b v ds w =
       let sheet = λ (none : opened b.entries ≡ []). nested-sheet box_of mode_of b.entries v (none_open v.account.opened (sym w.unclosed ∙ none)) w.nested in
       let whole : opened b.entries ≡ [] → entries (sheet_of b.entries) ≡ b.entries = λ none. sym (sheet none).whole in
       record {
@@ -338,6 +351,25 @@ module _ {D : Type 0} (box_of : D → Option RectU16) (mode_of : D → Option Bl
             tiles-listed (sheet_of b.entries) v ds t lists (sheet none).layers (sheet none).ordered stand s (surface-is b v ds w s ∙ is);
       }
 
+  -- and what is promised by the rules
+  pub keeps-led : (b : Ledger D) (v : Recording) (ds : List D) → Keeps b.scene b.entries v ds → Led box_of mode_of b v ds
+  keeps-led b v ds w =
+      let a = keeps-always b v ds w in
+      record {
+        recording = w.is;
+        stands = a.stands;
+        walk = a.walk;
+        nests = λ none.
+            let sheet = nested-sheet box_of mode_of b.entries v (none_open v.account.opened (sym w.unclosed ∙ none)) w.nested in
+            record {
+              sheet = sheet_of b.entries;
+              whole = a.whole none;
+              layers = sheet.layers;
+              placed = sheet.laid;
+              tiles = λ s t is. a.tiles none s t (sym (surface-is b v ds w s) ∙ is);
+            };
+      }
+
   -- one more answer
   answered-push : (places : ℕ) (b : Ledger D) (cs : List (Call D)) (answers : List Answer) (c : Call D) (a : Answer) → length cs ≡ length answers → AllAnswered box_of mode_of places b cs answers
       → Answered c places (recorded box_of mode_of (ledger_from b cs answers)) a → AllAnswered box_of mode_of places b (cs ++ (c ∷ [])) (answers ++ (a ∷ []))
@@ -349,11 +381,11 @@ module _ {D : Type 0} (box_of : D → Option RectU16) (mode_of : D → Option Bl
   -- the draw list after one more call
   draw-list-push : (b : Ledger D) (cs : List (Call D)) (answers : List Answer) (c : Call D) (a : Answer) (ds : List D) → length cs ≡ length answers
       → draw_list box_of mode_of b (cs ++ (c ∷ [])) (answers ++ (a ∷ [])) ds
-      ≡ cond (accepted a) (written box_of mode_of c (recorded box_of mode_of (ledger_from b cs answers)) (draw_list box_of mode_of b cs answers ds)) (draw_list box_of mode_of b cs answers ds)
+      ≡ cond (accepted a) (written box_of mode_of c (recording_for box_of mode_of (ledger_from b cs answers)) (draw_list box_of mode_of b cs answers ds)) (draw_list box_of mode_of b cs answers ds)
   draw-list-push b [] [] c a ds h = refl
   draw-list-push b [] (y ∷ ys) c a ds h = absurd (omega arith)
   draw-list-push b (z ∷ zs) [] c a ds h = absurd (omega arith)
-  draw-list-push b (z ∷ zs) (y ∷ ys) c a ds h = draw-list-push (after b z y) zs ys c a (cond (accepted y) (written box_of mode_of z (recorded box_of mode_of b) ds) ds) (omega arith)
+  draw-list-push b (z ∷ zs) (y ∷ ys) c a ds h = draw-list-push (after b z y) zs ys c a (cond (accepted y) (written box_of mode_of z (recording_for box_of mode_of b) ds) ds) (omega arith)
 
   -- after i calls of a run that began with the draw list `old`
   pub record SoFar (old : List D) (calls : List (Call D)) (answers first : List Answer) (i : ℕ) (v : Recording) (ds : List D) : Type 0 where
@@ -373,7 +405,7 @@ module _ {D : Type 0} (box_of : D → Option RectU16) (mode_of : D → Option Bl
       let b = ledger (take i calls) (take i answers) in
       let p : ledger (take (i + 1) calls) (take (i + 1) (set answers i a)) ≡ after b c a = ap₂ (λ x y. ledger x y) t u ∙ ledger-push empty (take i calls) (take i answers) c a same in
       let k = keeps-made c a b v v' ds ds' m w.keeps in
-      let told : Answered c (length old) (recorded box_of mode_of b) a = subst (λ r. Answered c (length old) r a) (same-recording b v ds w.keeps) (subst (λ n. Answered c n v a) w.long m.answered) in
+      let told : Answered c (length old) (recorded box_of mode_of b) a = subst (λ r. Answered c (length old) r a) w.keeps.is (subst (λ n. Answered c n v a) w.long m.answered) in
       let all = answered-push (length old) empty (take i calls) (take i answers) c a same w.answered told in
       let past : i < i + 1 = omega arith in
       let one : drop (i + 1) answers ≡ drop (i + 1) first = sym (drop-drop 1 i answers) ∙ ap (drop 1) w.later ∙ drop-drop 1 i first in

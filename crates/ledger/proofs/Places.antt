@@ -1,29 +1,17 @@
 -- Every layer's record stands at its number, and so does its placement.
-use Rattle.std.proofs.Common.{◌≡◌, ℕ, suc, ◌+◌, false, List, [], ◌∷◌, ◌++◌, length, Some, None, Option, sym, refl, ◌∙◌, subst, ap₂, append_assoc, arith, length-append}
+use Rattle.std.proofs.Common.{◌≡◌, ℕ, suc, ◌+◌, List, [], ◌∷◌, ◌++◌, length, Some, None, Option, sym, refl, ◌∙◌, subst, ap₂, append_assoc, arith, length-append}
 use Rattle.std.specs.List.{slice_get}
 use Rattle.geometry.specs.declared.rect.RectU16.{RectU16}
-use Rattle.geometry.specs.Rect.{empty}
 use Rattle.filter.specs.declared.data.FilterData.{FilterData}
 use Rattle.filter.specs.declared.placement.FilterLayerPlacement.{FilterLayerPlacement}
-use Rattle.filter.specs.Placement.{Lies, unplaced}
-use Rattle.layers.specs.declared.layer.ClosedLayer.{ClosedLayer}
+use Rattle.filter.specs.Placement.{Lies}
 use Rattle.layers.specs.declared.layer.RecordedLayer.{RecordedLayer}
 use Rattle.layers.specs.Records.{recorded_open, open_kind, placed_kind}
 use Rattle.ledger.specs.Ledger.{Opening}
-use Rattle.ledger.specs.Sheet.{Sheet, end, draw, layer, joined, closed_as, contents, layer_record, records, LiesKind, LiesBy, Placed}
+use Rattle.ledger.specs.Sheet.{Sheet, end, draw, layer, joined, closed_as, contents, layer_record, records, placement_or, LiesKind, LiesBy, LiesByRecord, Placed, PlacedByRecord}
 use Rattle.ledger.specs.Draft.{Frame, frame, AllPlaced}
 use Rattle.ledger.specs.Recorded.{records_of}
 use Rattle.ledger.proofs.Sheets.{size, Ordered, AllOrdered, Counts, length-records}
-
-abbrev pub placement_or : Option FilterLayerPlacement → FilterLayerPlacement
-placement_or None = unplaced
-placement_or (Some p) = p
-
--- what a closing gives lies where it should
-abbrev pub LaidBy : Option FilterData → Option RectU16 → ClosedLayer → Type 0
-LaidBy None c k = Unit {0}
-LaidBy (Some f) None k = Unit {0}
-LaidBy (Some f) (Some c) k = empty c ≡ false → Lies c f (placement_or k.placement)
 
 nth-at : {X : Type 0} (before : List X) (x : X) (behind : List X) → slice_get (before ++ (x ∷ behind)) (length before) ≡ Some x
 nth-at [] x behind = refl
@@ -34,22 +22,18 @@ lies-kind f c None l = (refl, l)
 lies-kind f c (Some p) l = (refl, l)
 
 module _ {D : Type 0} (box_of : D → Option RectU16) where
-  abbrev pub Laid : Sheet D → Type 0
-  Laid end = Unit {0}
-  Laid (draw n d rest) = Laid rest
-  Laid (layer n o inside rest) = LaidBy o.filter (contents box_of inside) (closed_as o (contents box_of inside)) × (Laid inside × Laid rest)
-
+  -- what the closings gave lies where it should, at any time
   abbrev pub AllLaid : List (Frame D) → Sheet D → Type 0
-  AllLaid [] x = Laid x
-  AllLaid (frame before n o ∷ fs) x = Laid x × AllLaid fs before
+  AllLaid [] x = Placed box_of x
+  AllLaid (frame before n o ∷ fs) x = Placed box_of x × AllLaid fs before
 
-  laid-joined : (s x : Sheet D) → Laid s → Laid x → Laid (joined s x)
+  laid-joined : (s x : Sheet D) → Placed box_of s → Placed box_of x → Placed box_of (joined s x)
   unfolding joined
   laid-joined end x p q = q
   laid-joined (draw n d rest) x p q = laid-joined rest x p q
   laid-joined (layer n o inside rest) x p q = (p.0, (p.1.0, laid-joined rest x p.1.1 q))
 
-  pub all-laid-joined : (fs : List (Frame D)) (s x : Sheet D) → AllLaid fs s → Laid x → AllLaid fs (joined s x)
+  pub all-laid-joined : (fs : List (Frame D)) (s x : Sheet D) → AllLaid fs s → Placed box_of x → AllLaid fs (joined s x)
   all-laid-joined [] s x p q = laid-joined s x p q
   all-laid-joined (frame before n o ∷ fs) s x p q = (laid-joined s x p.0 q, p.1)
 
@@ -80,17 +64,17 @@ module _ {D : Type 0} (box_of : D → Option RectU16) where
         ),
       )
 
-  lies-record : (depth : ℕ) (o : Opening) (inside : Sheet D) (f : Option FilterData) (c : Option RectU16) → o.filter ≡ f → contents box_of inside ≡ c → LaidBy f c (closed_as o (contents box_of inside)) → LiesBy f c (Some (layer_record box_of depth o inside))
+  lies-record : (depth : ℕ) (o : Opening) (inside : Sheet D) (f : Option FilterData) (c : Option RectU16) → o.filter ≡ f → contents box_of inside ≡ c → LiesBy f c (closed_as o (contents box_of inside)) → LiesByRecord f c (Some (layer_record box_of depth o inside))
   lies-record depth o inside None c e g l = tt
   lies-record depth o inside (Some f) None e g l = tt
   lies-record depth o inside (Some f) (Some c) e g l = λ full.
       subst (λ z. LiesKind c f (placed_kind (closed_as o (contents box_of inside)).placement (open_kind z))) (sym e) (lies-kind f c (closed_as o (contents box_of inside)).placement (l full))
 
-  placed_at : (table : List RecordedLayer) (depth : ℕ) (x : Sheet D) → RecordsAt table depth x → Laid x → Placed box_of table x
+  placed_at : (table : List RecordedLayer) (depth : ℕ) (x : Sheet D) → RecordsAt table depth x → Placed box_of x → PlacedByRecord box_of table x
   placed_at table depth end r l = tt
   placed_at table depth (draw n d rest) r l = placed_at table depth rest r l
   placed_at table depth (layer n o inside rest) r l = (
-    subst (LiesBy o.filter (contents box_of inside)) (sym r.0) (lies-record depth o inside o.filter (contents box_of inside) refl refl l.0),
+    subst (LiesByRecord o.filter (contents box_of inside)) (sym r.0) (lies-record depth o inside o.filter (contents box_of inside) refl refl l.0),
     (placed_at table (depth + 1) inside r.1.0 l.1.0, placed_at table depth rest r.1.1 l.1.1),
   )
 

@@ -15,12 +15,12 @@ use Rattle.walk.specs.FullWalk.{FullWalk, entry_count, walk_questions}
 use Rattle.tiles.specs.Tile.{draw_shows, is_surface, tile_fits, tile_listed, tile_questions, TileWalk, hit_questions, draw_listed, any_draw}
 use Rattle.ledger.specs.Ledger.{Entry, Leave, Ledger, draws_in, layers_in, opened, numbers}
 use Rattle.ledger.specs.Draft.{sheet_of}
-use Rattle.ledger.specs.Laws.{Led}
+use Rattle.ledger.specs.Laws.{Led, LedAlways}
 use Rattle.ledger.specs.Reached.{Reaches, begun, called, ListsAll, hit_asks, tile_asks, ListsTile, HitsListed, HitsAny}
 use Rattle.ledger.specs.Recorded.{none}
 use Rattle.ledger.specs.Sheet.{Sheet, end, draw, layer, entries}
 use Rattle.ledger.specs.Tiles.{surface_in, tile_list}
-use Rattle.ledger.proofs.Keeps.{Keeps, keeps-none, keeps-made, keeps-led, root_none, surface-is}
+use Rattle.ledger.proofs.Keeps.{Keeps, keeps-none, keeps-made, keeps-led, keeps-always, root_none, surface-is}
 
 -- a contract with other questions, whose first no is the same
 pub answers-as : {A : Type 0} (r : Result A Refusal) (q q' : List Question) (P P' : A → Type 0) (U : Type 0) → first_no q ≡ first_no q' → ((a : A) → first_no q ≡ None → P a → P' a) → Answers q r P U → Answers q' r P' U
@@ -67,6 +67,9 @@ module _ {D : Type 0} where
     reaches-keeps (begun ds) = keeps-none box_of mode_of (size 0 0) ds
     reaches-keeps (called c a b v v' ds ds' m w) = keeps-made box_of mode_of c a b v v' ds ds' m (reaches-keeps w)
 
+    pub reaches-always : (b : Ledger D) (v : Recording) (ds : List D) → Reaches box_of mode_of b v ds → LedAlways box_of mode_of b v ds
+    reaches-always b v ds w = keeps-always box_of mode_of b v ds (reaches-keeps w)
+
     pub reaches-led : (b : Ledger D) (v : Recording) (ds : List D) → Reaches box_of mode_of b v ds → Led box_of mode_of b v ds
     reaches-led b v ds w = keeps-led box_of mode_of b v ds (reaches-keeps w)
 
@@ -80,7 +83,7 @@ module _ {D : Type 0} where
       count-is : none (opened b.entries) ≡ true → entry_count v ≡ length b.entries
       count-is e =
           let k = reaches-keeps w in
-          let whole = (reaches-led b v ds w).whole (none_is (opened b.entries) e) in
+          let whole = (reaches-always b v ds w).whole (none_is (opened b.entries) e) in
           let n = ap length whole in
           let d = ap draws_in whole in
           let y = ap layers_in whole in
@@ -95,11 +98,11 @@ module _ {D : Type 0} where
           answers-as r (walk_questions v (length out)) q (λ n. FullWalk v n out out') (λ n. (n ≡ length es) × (out' ≡ numbers es ++ drop n out)) (out' ≡ out) same
           (λ n asked f.
           let root : none (opened es) ≡ true = sym root_is ∙ first-yes (at_root v.account.opened) 10 (room (entry_count v)) asked in
-          (f.count ∙ count-is root, f.written ∙ ap (λ z. z ++ drop n out) ((reaches-led b v ds w).walk (none_is (opened es) root))))
+          (f.count ∙ count-is root, f.written ∙ ap (λ z. z ++ drop n out) ((reaches-always b v ds w).walk (none_is (opened es) root))))
           h
 
       tile-is : (s : Surface) (t : Tile) → none (opened b.entries) ≡ true → surface_in s b.entries ≡ true → tile_listed s t (draw_shows box_of t ds) v ≡ tile_list box_of s t (sheet_of b.entries)
-      tile-is s t e i = (reaches-led b v ds w).tiles (none_is (opened b.entries) e) s t i
+      tile-is s t e i = (reaches-always b v ds w).tiles (none_is (opened b.entries) e) s t i
 
       drawn-is : v.account.drawn ≡ draws_in b.entries
       drawn-is = sym (reaches-keeps w).draws

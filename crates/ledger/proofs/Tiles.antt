@@ -1,5 +1,5 @@
 -- What a tile shows of the scene by boxes is what the ledger says by clips.
-use Rattle.std.proofs.Common.{◌≡◌, ℕ, ◌*◌, Bool, true, false, cond, ◌&&◌, ltb, leb, List, [], ◌∷◌, ◌++◌, Some, None, Option, sym, refl, ap, ◌∙◌, ap₂, ⊎_elim, arith}
+use Rattle.std.proofs.Common.{◌≡◌, ℕ, ◌*◌, Bool, true, false, cond, ◌&&◌, eqb, ltb, leb, List, [], ◌∷◌, ◌++◌, Some, None, Option, sym, refl, ap, ◌∙◌, ap₂, ⊎_elim, arith}
 use Rattle.std.proofs.lemmas.Bool.{cases_Bool, and_parts, and_from, and_left, and_right, leb-true, ltb-true, le-leb, lt-ltb, lt-leb, or_from, cond_both, both_ways}
 use Rattle.geometry.specs.declared.rect.RectU16.{RectU16}
 use Rattle.geometry.specs.declared.tile.Tile.{Tile}
@@ -17,7 +17,7 @@ use Rattle.tiles.specs.declared.surface.Surface.TheVariants as surfaces
 use Rattle.tiles.specs.Tile.{box_shows}
 use Rattle.ledger.specs.Ledger.{Opening}
 use Rattle.ledger.specs.Sheet.{Sheet, end, draw, layer, or_nothing, closed_as, contents, contents_from}
-use Rattle.ledger.specs.Tiles.{Around, all, regular, surface_of, between, unhidden, unclipped, boxed, shown, bracket, listings}
+use Rattle.ledger.specs.Tiles.{Around, all, regular, further, between, unhidden, unclipped, boxed, shown, bracket, listings}
 
 -- a rectangle covers a tile, by its edges
 holds : (t : Tile) (r : RectU16) → covered t r ≡ true → Holds r (4 * t.x) (4 * t.y)
@@ -112,6 +112,17 @@ module _ (t : Tile) where
       let b = regular-boxed l.opening.filter l.inner (clip_box l.opening.props.clip_path) p.0 h u.0 in
       and_from (boxed t l) (all (boxed t) (m ∷ around)) b (clips-boxes (m ∷ around) p.1 k.1 (k.0 b) u.1)
 
+-- whether the surface is that of layer n
+abbrev pub surface_of : Surface → ℕ → Bool
+surface_of surfaces.Scene n = false
+surface_of (surfaces.Layer s) n = eqb s n
+
+-- one more layer around, on any surface
+between-more : (s : Surface) (l : Around) (around : List Around)
+    → between s (l ∷ around) ≡ cond (regular l.opening.filter) (further l (between s around)) (cond (surface_of s l.number) (Some []) None)
+between-more surfaces.Scene l around = refl
+between-more (surfaces.Layer i) l around = refl
+
 -- no layer of the sheet is the surface's own
 abbrev pub Apart : {D : Type 0} → Surface → Sheet D → Type 0
 Apart s end = Unit {0}
@@ -127,11 +138,12 @@ scene-apart (layer n o inside rest) = (refl, (scene-apart inside, scene-apart re
 module _ (t : Tile) (s : Surface) where
   pub bracket-none : (l : Around) (around : List Around) (e : Listed) (f : List Listed) → between s around ≡ None → bracket s t (l ∷ around) e f ≡ []
   bracket-none l around e f n =
-      ⊎_elim (λ (r : regular l.opening.filter ≡ true). rw (r, n) refl) (λ (r : regular l.opening.filter ≡ false). rw (r, n) refl) (cases_Bool (regular l.opening.filter))
+      ⊎_elim (λ (r : regular l.opening.filter ≡ true). rw (r, between-more s l around, r, n) refl) (λ (r : regular l.opening.filter ≡ false). rw (r, n) refl) (cases_Bool (regular l.opening.filter))
 
   pub between_none : (l : Around) (around : List Around) → surface_of s l.number ≡ false → between s around ≡ None → between s (l ∷ around) ≡ None
   between_none l around o n =
-      ⊎_elim (λ (r : regular l.opening.filter ≡ true). rw (r, n) refl) (λ (r : regular l.opening.filter ≡ false). rw (r, o) refl) (cases_Bool (regular l.opening.filter))
+      between-more s l around
+      ∙ ⊎_elim (λ (r : regular l.opening.filter ≡ true). rw (r, n) refl) (λ (r : regular l.opening.filter ≡ false). rw (r, o) refl) (cases_Bool (regular l.opening.filter))
 
   pub listings-none : {D : Type 0} (box_of : D → Option RectU16) (x : Sheet D) (around : List Around) → Apart s x → between s around ≡ None → listings box_of s t x around ≡ []
   listings-none box_of end around a n = refl

@@ -3,7 +3,7 @@ use Rattle.std.specs.Prelude.{ℕ, List, [], ◌∷◌, ◌++◌, Option}
 use Rattle.geometry.specs.declared.rect.RectU16.{RectU16}
 use Rattle.layers.specs.declared.layer.RecordedLayer.{RecordedLayer}
 use Rattle.ledger.specs.Ledger.{Opening, Entry, Draw, Enter, Leave}
-use Rattle.ledger.specs.Sheet.{Sheet, end, draw, layer, joined, entries, Placed}
+use Rattle.ledger.specs.Sheet.{Sheet, end, draw, layer, joined, entries, PlacedByRecord}
 
 -- an open layer: what stands before it in the layer around it, its number and its arguments
 pub data Frame (D : Type 0) : Type 0 where
@@ -52,5 +52,5 @@ module _ {D : Type 0} where
 
   -- every filter layer that is closed, with contents, lies where it should, by its record in the table
   abbrev pub AllPlaced : (D → Option RectU16) → List RecordedLayer → List (Frame D) → Sheet D → Type 0
-  AllPlaced box_of table [] x = Placed box_of table x
-  AllPlaced box_of table (frame before n o ∷ fs) x = Placed box_of table x × AllPlaced box_of table fs before
+  AllPlaced box_of table [] x = PlacedByRecord box_of table x
+  AllPlaced box_of table (frame before n o ∷ fs) x = PlacedByRecord box_of table x × AllPlaced box_of table fs before

@@ -7,10 +7,11 @@ use Rattle.walk.specs.FullWalk.{listed}
 use Rattle.ledger.specs.Ledger.{Entry, Draw, Enter, Leave, Ledger, opened, numbers}
 use Rattle.geometry.specs.declared.tile.Tile.{Tile}
 use Rattle.tiles.specs.declared.surface.Surface.{Surface}
-use Rattle.tiles.specs.Tile.{draw_shows, tile_listed}
-use Rattle.ledger.specs.Sheet.{Sheet, entries}
+use Rattle.tiles.specs.Tile.{draw_shows, is_surface, tile_listed}
+use Rattle.ledger.specs.Sheet.{Sheet, entries, records, Placed}
 use Rattle.ledger.specs.Draft.{draft_of, sheet_of, entries_of, AllPlaced}
-use Rattle.ledger.specs.Recorded.{recorded}
+use Rattle.ledger.specs.Recorded.{recording_for}
+use Rattle.ledger.specs.Runs.{recorded}
 use Rattle.ledger.specs.Tiles.{surface_in, tile_list}
 
 -- a draw stands at its place in the draw list
@@ -24,12 +25,35 @@ abbrev pub Each : {D : Type 0} → (Entry D → Type 0) → List (Entry D) → T
 Each P [] = Unit {0}
 Each P (e ∷ es) = P e × Each P es
 
+-- The entries es, with no layer open, by their nesting.
+pub record Nesting {D : Type 0} (box_of : D → Option RectU16) (es : List (Entry D)) (r : Recording) (ds : List D) : Type 0 where
+  -- they are those of a sheet
+  pub sheet : Sheet D
+  pub whole : entries sheet ≡ es
+  -- every layer's box and placement are those that the closing rules give by that nesting
+  pub layers : r.tree.layers ≡ records box_of 1 sheet
+  -- every filter layer with contents lies where it should
+  pub placed : Placed box_of sheet
+  -- the list of each tile on the scene, and on every filter layer's surface, is the one that the nesting gives, by clips
+  pub tiles : (s : Surface) (t : Tile) → is_surface s r.tree.layers ≡ true → tile_listed s t (draw_shows box_of t ds) r ≡ tile_list box_of s t sheet
+
 -- The ledger b led to the recording r and the draw list ds.
 pub record Led {D : Type 0} (box_of : D → Option RectU16) (mode_of : D → Option BlendMode) (b : Ledger D) (r : Recording) (ds : List D) : Type 0 where
+  -- at any time the recording is the one that the rules give for the ledger
+  pub recording : r ≡ recorded box_of mode_of b
+  -- each draw of the ledger stands at its place in the draw list
+  pub stands : Each (Stands ds) b.entries
+  -- with no layer open, a full walk lists exactly the ledger's entries, in order
+  pub walk : opened b.entries ≡ [] → listed r ≡ numbers b.entries
+  -- and layers, destinations and tile lists are those that the ledger's nesting gives
+  pub nests : opened b.entries ≡ [] → Nesting box_of b.entries r ds
+
+-- The same by the ledger's own nesting and without the rules of the calls, with more that holds while layers are open.
+pub record LedAlways {D : Type 0} (box_of : D → Option RectU16) (mode_of : D → Option BlendMode) (b : Ledger D) (r : Recording) (ds : List D) : Type 0 where
   -- at any time the nesting has the ledger's entries, in order,
   pub nests : entries_of (draft_of b.entries) ≡ b.entries
   -- the recording is the ledger's,
-  pub recording : r ≡ recorded box_of mode_of b
+  pub recording : r ≡ recording_for box_of mode_of b
   -- each draw stands at its place in the draw list,
   pub stands : Each (Stands ds) b.entries
   -- and every filter layer that is closed, with contents, lies where it should

@@ -7,7 +7,7 @@ use Rattle.ledger.specs.declared.call.Answer.{Answer}
 use Rattle.ledger.specs.declared.call.Call.{Call}
 use Rattle.ledger.specs.declared.call.Call.TheVariants as call
 use Rattle.ledger.specs.Ledger.{Ledger, accepted, after}
-use Rattle.ledger.specs.Recorded.{recorded}
+use Rattle.ledger.specs.Recorded.{recording_for}
 use Rattle.ledger.specs.Runs.{Answered}
 
 module _ {D : Type 0} (box_of : D → Option RectU16) (mode_of : D → Option BlendMode) where
@@ -36,4 +36,4 @@ module _ {D : Type 0} (box_of : D → Option RectU16) (mode_of : D → Option Bl
   abbrev pub draw_list : Ledger D → List (Call D) → List Answer → List D → List D
   draw_list b [] answers ds = ds
   draw_list b (c ∷ cs) [] ds = ds
-  draw_list b (c ∷ cs) (a ∷ rest) ds = draw_list (after b c a) cs rest (cond (accepted a) (written c (recorded box_of mode_of b) ds) ds)
+  draw_list b (c ∷ cs) (a ∷ rest) ds = draw_list (after b c a) cs rest (cond (accepted a) (written c (recording_for box_of mode_of b) ds) ds)

@@ -126,6 +126,6 @@ module _ {D : Type 0} (box_of : D → Option RectU16) (mode_of : D → Option Bl
         filters = filter_numbers b.entries;
       }
 
-  -- the recording of a ledger
-  abbrev pub recorded : Ledger D → Recording
-  recorded b = record { account = account_for b; tree = tree_for b }
+  -- the recording of a ledger, field by field
+  abbrev pub recording_for : Ledger D → Recording
+  recording_for b = record { account = account_for b; tree = tree_for b }

@@ -4,7 +4,8 @@ use Rattle.std.specs.List.{slice_get}
 use Rattle.geometry.specs.declared.rect.RectU16.{RectU16}
 use Rattle.geometry.specs.Rect.{zero, empty}
 use Rattle.filter.specs.declared.data.FilterData.{FilterData}
-use Rattle.filter.specs.Placement.{Lies}
+use Rattle.filter.specs.declared.placement.FilterLayerPlacement.{FilterLayerPlacement}
+use Rattle.filter.specs.Placement.{Lies, unplaced}
 use Rattle.layers.specs.declared.layer.ClosedLayer.{ClosedLayer}
 use Rattle.layers.specs.declared.layer.RecordedLayer.{RecordedLayer}
 use Rattle.layers.specs.declared.layer.RecordedLayerKind.{RecordedLayerKind}
@@ -41,6 +42,17 @@ or_nothing (Some k) = k
 abbrev pub closed_as : Opening → Option RectU16 → ClosedLayer
 closed_as o c = or_nothing (closing_by o.filter (clip_box o.props.clip_path) c)
 
+-- an absent placement counts as the one without contents
+abbrev pub placement_or : Option FilterLayerPlacement → FilterLayerPlacement
+placement_or None = unplaced
+placement_or (Some p) = p
+
+-- what a closing gives lies as it should, where there is a filter, and contents that are not empty
+abbrev pub LiesBy : Option FilterData → Option RectU16 → ClosedLayer → Type 0
+LiesBy None c k = Unit {0}
+LiesBy (Some f) None k = Unit {0}
+LiesBy (Some f) (Some c) k = empty c ≡ false → Lies c f (placement_or k.placement)
+
 -- a filter layer with these data, whose placement lies as it should around the contents c
 abbrev pub LiesKind : RectU16 → FilterData → RecordedLayerKind → Type 0
 LiesKind c f Regular = ⊥
@@ -52,10 +64,10 @@ LiesRecord c f None = ⊥
 LiesRecord c f (Some x) = LiesKind c f x.kind
 
 -- the same where there is a filter, and contents that are not empty
-abbrev pub LiesBy : Option FilterData → Option RectU16 → Option RecordedLayer → Type 0
-LiesBy None c x = Unit {0}
-LiesBy (Some f) None x = Unit {0}
-LiesBy (Some f) (Some c) x = empty c ≡ false → LiesRecord c f x
+abbrev pub LiesByRecord : Option FilterData → Option RectU16 → Option RecordedLayer → Type 0
+LiesByRecord None c x = Unit {0}
+LiesByRecord (Some f) None x = Unit {0}
+LiesByRecord (Some f) (Some c) x = empty c ≡ false → LiesRecord c f x
 
 module _ {D : Type 0} (box_of : D → Option RectU16) where
   -- the boxes put into contents c, one after another: a draw's own, and what a layer hands on once it is closed
@@ -84,9 +96,16 @@ module _ {D : Type 0} (box_of : D → Option RectU16) where
   closings (draw n d rest) = closings rest
   closings (layer n o inside rest) = closings inside ++ (closed_as o (contents inside) ∷ closings rest)
 
-  -- Of every filter layer with contents that are not empty, by its record in the table: a point lies in its destination exactly when,
-  -- moved by the shift, it lies in the smallest rectangle of whole tiles around the padded contents.
-  abbrev pub Placed : List RecordedLayer → Sheet D → Type 0
-  Placed table end = Unit {0}
-  Placed table (draw n d rest) = Placed table rest
-  Placed table (layer n o inside rest) = LiesBy o.filter (contents inside) (slice_get table n) × (Placed table inside × Placed table rest)
+  -- Of every filter layer with contents that are not empty: a point lies in its destination exactly when, moved by the shift,
+  -- it lies in the smallest rectangle of whole tiles around the padded contents.
+  abbrev pub Placed : Sheet D → Type 0
+  Placed end = Unit {0}
+  Placed (draw n d rest) = Placed rest
+  Placed (layer n o inside rest) = LiesBy o.filter (contents inside) (closed_as o (contents inside)) × (Placed inside × Placed rest)
+
+  -- the same by each layer's record in the table, which is that of a filter layer with the filter it was opened with
+  abbrev pub PlacedByRecord : List RecordedLayer → Sheet D → Type 0
+  PlacedByRecord table end = Unit {0}
+  PlacedByRecord table (draw n d rest) = PlacedByRecord table rest
+  PlacedByRecord table (layer n o inside rest) =
+      LiesByRecord o.filter (contents inside) (slice_get table n) × (PlacedByRecord table inside × PlacedByRecord table rest)

@@ -50,20 +50,13 @@ abbrev pub further : Around → Option (List Around) → Option (List Around)
 further l None = None
 further l (Some ls) = Some (l ∷ ls)
 
--- whether the surface is that of layer n
-abbrev pub surface_of : Surface → ℕ → Bool
-surface_of surfaces.Scene n = false
-surface_of (surfaces.Layer s) n = s == n
-
--- what stands in no layer is the scene's own
-abbrev pub outermost : Surface → Option (List Around)
-outermost surfaces.Scene = Some []
-outermost (surfaces.Layer s) = None
-
 -- the regular layers between a surface and what stands inside `around`; None where it is not the surface's own
 abbrev pub between : Surface → List Around → Option (List Around)
-between s [] = outermost s
-between s (l ∷ around) = cond (regular l.opening.filter) (further l (between s around)) (cond (surface_of s l.number) (Some []) None)
+between surfaces.Scene [] = Some []
+between (surfaces.Layer s) [] = None
+between surfaces.Scene (l ∷ around) = cond (regular l.opening.filter) (further l (between surfaces.Scene around)) None
+between (surfaces.Layer s) (l ∷ around) =
+    cond (regular l.opening.filter) (further l (between (surfaces.Layer s) around)) (cond (s == l.number) (Some []) None)
 
 -- an absent clip hides nothing
 abbrev pub unhidden : Tile → Option RectU16 → Bool

@@ -5,7 +5,7 @@ ghost use Rattle.record.specs.Recording.{recording};
 ghost use Rattle.walk.specs.FullWalk.{FullWalk, walk_questions};
 ghost use Rattle.tiles.specs.declared.surface.Surface.TheVariants.{Scene};
 ghost use Rattle.tiles.specs.Tile.{draw_shows, tile_listed, tile_questions, TileWalk, hit_questions, draw_listed, any_draw};
-ghost use Rattle.ledger.specs.Laws.{Led};
+ghost use Rattle.ledger.specs.Laws.{Led, LedAlways};
 ghost use Rattle.ledger.specs.Ledger.{Ledger, empty, after};
 ghost use Rattle.ledger.specs.Made.{Made};
 ghost use Rattle.ledger.specs.Reached.{Reached, ListsAll, ListsTile, HitsListed, HitsAny};
@@ -93,7 +93,8 @@ impl<'a, D: Drawable + Copy> Design<'a, D> {
     // The recorder, to be read. What it holds is what the ledger says.
     pub fn recorder(&self) -> &CommandRecorder
         ensures value { result.now ≡ self.now.recorder }
-        ensures led { (b : Ledger D) → Reached D.box_of D.mode_of b self.now → Led (λ d. D.box_of d self.now.strips.now) D.mode_of b (recording result.now) self.now.draws.items }
+        ensures led { (b : Ledger D) → Reached D.box_of D.mode_of b self.now → LedAlways (λ d. D.box_of d self.now.strips.now) D.mode_of b (recording result.now) self.now.draws.items }
+        ensures by_rules { (b : Ledger D) → Reached D.box_of D.mode_of b self.now → Led (λ d. D.box_of d self.now.strips.now) D.mode_of b (recording result.now) self.now.draws.items }
     {
         &self.recorder
     }

@@ -1,7 +1,7 @@
 // A run of calls on a new recorder.
 ghost use Rattle.std.specs.Prelude.{◌≡◌, min, length, take, drop};
 ghost use Rattle.record.specs.Recording.{recording};
-ghost use Rattle.ledger.specs.Laws.{Led};
+ghost use Rattle.ledger.specs.Laws.{Led, LedAlways};
 ghost use Rattle.ledger.specs.Ledger.{empty, ledger};
 ghost use Rattle.ledger.specs.Made.{Made, draw_list};
 ghost use Rattle.ledger.specs.Runs.{AllAnswered};
@@ -59,6 +59,7 @@ pub fn replay<D: Drawable + Copy>(
     ensures answered { AllAnswered (λ d. D.box_of d strips.now) D.mode_of (length draws.old) empty (take result.made calls.now) (take result.made answers.new) }
     ensures list { draws.new ≡ draw_list (λ d. D.box_of d strips.now) D.mode_of empty (take result.made calls.now) (take result.made answers.new) draws.old }
     ensures led { Led (λ d. D.box_of d strips.now) D.mode_of (ledger (take result.made calls.now) (take result.made answers.new)) (recording result.recorder) draws.new }
+    ensures always { LedAlways (λ d. D.box_of d strips.now) D.mode_of (ledger (take result.made calls.now) (take result.made answers.new)) (recording result.recorder) draws.new }
 {
     let mut recorder = CommandRecorder::new();
     let made = calls.len().min(answers.len());
