@@ -1,4 +1,6 @@
 // Reads a script from standard input, makes its calls on a new recorder, and prints a line for each.
+#![tactic(auto)]
+
 use stage::failure::Failure;
 use stage::run::run_script;
 use std::io;
