@@ -1,12 +1,12 @@
 // The calls of a design. Each says what it means of every ledger that led to the design.
-ghost use Rattle.std.specs.Prelude.{◌≡◌, true, length, is_some, IfSome, vec_len};
+ghost use Rattle.std.specs.Prelude.{◌≡◌, true, false, length, is_some, IfSome, vec_len};
 ghost use Rattle.refusal.specs.Refusals.{Answers};
 ghost use Rattle.record.specs.Recording.{recording};
 ghost use Rattle.walk.specs.FullWalk.{FullWalk, walk_questions};
 ghost use Rattle.tiles.specs.declared.surface.Surface.TheVariants.{Scene};
 ghost use Rattle.tiles.specs.Tile.{draw_shows, tile_listed, tile_questions, TileWalk, hit_questions, draw_listed, any_draw};
 ghost use Rattle.ledger.specs.Laws.{Led, LedAlways};
-ghost use Rattle.ledger.specs.Ledger.{Ledger, empty, after};
+ghost use Rattle.ledger.specs.Ledger.{Ledger, empty, after, accepted};
 ghost use Rattle.ledger.specs.Made.{Made};
 ghost use Rattle.ledger.specs.Reached.{Reached, ListsAll, ListsTile, HitsListed, HitsAny};
 
@@ -41,6 +41,7 @@ impl<'a, D: Drawable + Copy> Design<'a, D> {
     // Makes one call. A refused one alters nothing.
     pub fn make(&mut self, call: Call<D>) -> Answer
         ensures made { Made (λ d. D.box_of d self.old.strips.now) D.mode_of call result (recording self.old.recorder) (recording self.new.recorder) self.old.draws.items self.new.draws.items }
+        ensures kept { accepted result ≡ false → self.new.recorder ≡ self.old.recorder }
         ensures strips { self.new.strips.now ≡ self.old.strips.now }
         ensures leads { (b : Ledger D) → Reached D.box_of D.mode_of b self.old → Reached D.box_of D.mode_of (after b call result) self.new }
     {

@@ -1,8 +1,8 @@
 // A run of calls on a new recorder.
-ghost use Rattle.std.specs.Prelude.{◌≡◌, min, length, take, drop};
+ghost use Rattle.std.specs.Prelude.{◌≡◌, false, min, length, take, drop};
 ghost use Rattle.record.specs.Recording.{recording};
 ghost use Rattle.ledger.specs.Laws.{Led, LedAlways};
-ghost use Rattle.ledger.specs.Ledger.{empty, ledger};
+ghost use Rattle.ledger.specs.Ledger.{empty, ledger, accepted};
 ghost use Rattle.ledger.specs.Made.{Made, draw_list};
 ghost use Rattle.ledger.specs.Runs.{AllAnswered};
 
@@ -11,14 +11,15 @@ use draws::drawable::Drawable;
 use draws::strip::Strip;
 use record::recorder::CommandRecorder;
 
-// Makes one call.
+// Makes one call. A refused one leaves the recorder as it was.
 pub fn make_call<D: Drawable + Copy>(
     recorder: &mut CommandRecorder,
     call: Call<D>,
     draws: &mut [D],
     strips: &[Strip],
 ) -> Answer
-    ensures { Made (λ d. D.box_of d strips.now) D.mode_of call result (recording recorder.old) (recording recorder.new) draws.old draws.new }
+    ensures made { Made (λ d. D.box_of d strips.now) D.mode_of call result (recording recorder.old) (recording recorder.new) draws.old draws.new }
+    ensures kept { accepted result ≡ false → recorder.new ≡ recorder.old }
 {
     match call {
         Call::Reset { width, height } => match recorder.reset(width, height) {

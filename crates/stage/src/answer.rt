@@ -1,10 +1,38 @@
 // What the calls answer, as it is printed after a line's number.
 use crate::shown::Shown;
+use geometry::size::SizeU16;
 use geometry::tile::Tile;
+use layers::layer::PoppedLayer;
 use refusal::Refusal;
 use std::fmt;
 use tiles::surface::Surface;
 use walk::listed::Listed;
+
+// The answer of a recording call.
+#[derive(Clone, Copy)]
+pub enum Answer {
+    Reset(SizeU16),
+    Draw(u32),
+    Enter(u32),
+    Leave(u32, PoppedLayer),
+}
+
+impl fmt::Display for Answer {
+    fn fmt<W: fmt::Write>(&self, f: &mut fmt::Formatter<W>) -> fmt::Result {
+        match *self {
+            Answer::Reset(scene) => {
+                let scene = Shown(scene);
+                write!(f, "reset {scene}")
+            }
+            Answer::Draw(number) => write!(f, "draw {number}"),
+            Answer::Enter(layer) => write!(f, "enter {layer}"),
+            Answer::Leave(layer, kind) => {
+                let kind = Shown(kind);
+                write!(f, "leave {layer} {kind}")
+            }
+        }
+    }
+}
 
 // A call that was refused.
 #[derive(Clone, Copy)]

@@ -2,16 +2,14 @@
 ghost use Rattle.std.specs.Prelude.{◌≡◌};
 ghost use Rattle.stage.specs.Calls.{recording_call};
 
-use crate::answer::{Found, Hit, Refused, Walk, Walked};
+use crate::answer::{Answer, Found, Hit, Refused, Walk, Walked};
 use crate::failure::Failure;
 use crate::report::Report;
-use crate::shown::Shown;
 use crate::stage::Stage;
 use calls::call::Call;
 use calls::draw_line::DrawLine;
 use draws::tagged::Tagged;
 use geometry::tile::Tile;
-use ledger::call::Answer;
 use refusal::Refusal;
 use script::script::{Script, read_script};
 use script::sheet::{Line, Sheet};
@@ -25,26 +23,27 @@ fn print_refused<W: Write>(out: &mut W, line: u32, refusal: Refusal) -> io::Resu
     writeln!(out, "{line} {refused}")
 }
 
-// Makes a recording call, and prints what it answers: a reset with the scene, a closing with the layer that was closed.
-fn print_call<D: DrawLine, W: Write>(
-    stage: &mut Stage<'_, D>,
+fn print_answer<W: Write>(
     out: &mut W,
     line: u32,
-    call: ledger::call::Call<Tagged<D>>,
+    answer: Result<Answer, Refusal>,
 ) -> io::Result<()> {
-    let active = Shown(stage.recorder().active_layer());
-    match stage.make(call) {
-        Answer::Reset => {
-            let scene = Shown(stage.recorder().scene_size());
-            writeln!(out, "{line} reset {scene}")
-        }
-        Answer::Drawn(number) => writeln!(out, "{line} draw {number}"),
-        Answer::Entered(layer) => writeln!(out, "{line} enter {layer}"),
-        Answer::Left(kind) => {
-            let kind = Shown(kind);
-            writeln!(out, "{line} leave {active} {kind}")
-        }
-        Answer::Refused(refusal) => print_refused(out, line, refusal),
+    match answer {
+        Ok(answer) => writeln!(out, "{line} {answer}"),
+        Err(refusal) => print_refused(out, line, refusal),
+    }
+}
+
+// Makes a recording call.
+fn record<D: DrawLine>(
+    stage: &mut Stage<'_, D>,
+    call: ledger::call::Call<Tagged<D>>,
+) -> Result<Answer, Refusal> {
+    match call {
+        ledger::call::Call::Reset { width, height } => stage.reset(width, height),
+        ledger::call::Call::Draw(Tagged { draw, line }) => stage.draw(draw, line),
+        ledger::call::Call::Open { props, filter } => stage.open(props, filter),
+        ledger::call::Call::Close => stage.close(),
     }
 }
 
@@ -144,14 +143,14 @@ fn make<D: DrawLine, W: Write>(
     out: &mut W,
 ) -> Result<(), Failure> {
     match recording_call(line) {
-        Some(call) => print_call(stage, out, line.number, call)?,
+        Some(call) => print_answer(out, line.number, record(stage, call))?,
         None => ask(stage, line, out)?,
     }
     Ok(())
 }
 
 // Makes the calls of a sheet one after another on a new recorder.
-fn run_sheet<D: DrawLine, W: Write>(
+pub fn run_sheet<D: DrawLine, W: Write>(
     heap: Global,
     sheet: &Sheet<D>,
     out: &mut W,

@@ -1,23 +1,28 @@
 // A design as a script makes it, and the lists of its walks.
-ghost use Rattle.std.specs.Prelude.{◌≡◌, min, IfOk, vec_len};
+ghost use Rattle.std.specs.Prelude.{◌≡◌, ℕ, false, min, IfOk, Some, vec_len};
 ghost use Rattle.std.specs.Option.{unwrap_or};
 ghost use Rattle.refusal.specs.Refusals.{Answers};
 ghost use Rattle.draws.specs.declared.tagged.Tagged.{Tagged};
-ghost use Rattle.record.specs.Recording.{recording};
+ghost use Rattle.record.specs.Account.{close_questions};
+ghost use Rattle.record.specs.Pushed.{Pushed};
+ghost use Rattle.record.specs.Recording.{recording, draw_questions, reset_questions, after_reset, open_questions, after_opening, after_closing, innermost_kind, active};
 ghost use Rattle.walk.specs.FullWalk.{listed, entry_count, walk_questions};
 ghost use Rattle.tiles.specs.declared.surface.Surface.TheVariants.{Scene};
 ghost use Rattle.tiles.specs.Tile.{tile_listed, tile_questions, hit_questions};
-ghost use Rattle.ledger.specs.Ledger.{Ledger, empty, after};
-ghost use Rattle.ledger.specs.Made.{Made};
+ghost use Rattle.ledger.specs.Ledger.{Ledger, empty, after, accepted};
+ghost use Rattle.ledger.specs.Made.{Made as CallMade};
 ghost use Rattle.ledger.specs.Reached.{Reached};
 ghost use Rattle.script.specs.Sheets.{draw_lines};
+ghost use Rattle.stage.specs.declared.answer.Answer.TheVariants.{Reset, Draw, Enter, Leave};
 ghost use Rattle.stage.specs.Hits.{seen_by, Hits};
 
-use crate::answer::Found;
+use crate::answer::{Answer, Found};
 use calls::draw_line::DrawLine;
 use draws::tagged::Tagged;
+use filter::data::FilterData;
 use geometry::tile::Tile;
-use ledger::call::{Answer, Call};
+use layers::props::LayerProps;
+use ledger::call::{Answer as Made, Call};
 use ledger::design::Design;
 use record::account::MAX_DRAWS;
 use record::recorder::CommandRecorder;
@@ -66,12 +71,60 @@ impl<'a, D: DrawLine> Stage<'a, D> {
         })
     }
 
-    // Makes one recording call.
-    pub fn make(&mut self, call: Call<Tagged<D>>) -> Answer
-        ensures made { Made (λ d. D.Drawable.box_of d.draw self.old.design.strips.now) (λ d. D.Drawable.mode_of d.draw) call result (recording self.old.design.recorder) (recording self.new.design.recorder) self.old.design.draws.items self.new.design.draws.items }
+    // Makes one recording call. A refused one alters nothing.
+    pub fn make(&mut self, call: Call<Tagged<D>>) -> Made
+        ensures kept { accepted result ≡ false → self.new.design.recorder ≡ self.old.design.recorder }
+        ensures made { CallMade (λ d. D.Drawable.box_of d.draw self.old.design.strips.now) (λ d. D.Drawable.mode_of d.draw) call result (recording self.old.design.recorder) (recording self.new.design.recorder) self.old.design.draws.items self.new.design.draws.items }
         ensures leads { (b : Ledger (Tagged D)) → Reached (λ d strips. D.Drawable.box_of d.draw strips) (λ d. D.Drawable.mode_of d.draw) b self.old.design → Reached (λ d strips. D.Drawable.box_of d.draw strips) (λ d. D.Drawable.mode_of d.draw) (after b call result) self.new.design }
     {
         self.design.make(call)
+    }
+
+    // Empties the recording and sets the scene. Answers the scene that was set.
+    pub fn reset(&mut self, width: u16, height: u16) -> Result<Answer, Refusal>
+        ensures { Answers (reset_questions width height) result (λ a. (a ≡ Reset (recording self.new.design.recorder).account.scene) × (recording self.new.design.recorder ≡ after_reset width height)) (self.new.design.recorder ≡ self.old.design.recorder) }
+    {
+        match self.make(Call::Reset { width, height }) {
+            Made::Reset => Ok(Answer::Reset(self.recorder().scene_size())),
+            Made::Refused(refusal) => Err(refusal),
+            _ => unreachable!(),
+        }
+    }
+
+    // Records a draw with the line that made it. Answers its number.
+    pub fn draw(&mut self, draw: D, line: u32) -> Result<Answer, Refusal>
+        ensures { Answers (draw_questions (vec_len self.old.design.draws) (recording self.old.design.recorder)) result (λ a. (n : ℕ) × (a ≡ Draw n) × Pushed n (record { draw = draw; line = line }) (D.Drawable.box_of draw self.old.design.strips.now) (D.Drawable.mode_of draw) (recording self.old.design.recorder) (recording self.new.design.recorder) self.old.design.draws.items self.new.design.draws.items) (self.new.design.recorder ≡ self.old.design.recorder) }
+    {
+        match self.make(Call::Draw(Tagged { draw, line })) {
+            Made::Drawn(number) => Ok(Answer::Draw(number)),
+            Made::Refused(refusal) => Err(refusal),
+            _ => unreachable!(),
+        }
+    }
+
+    // Opens a layer. Answers its number.
+    pub fn open(&mut self, props: LayerProps, filter: Option<FilterData>) -> Result<Answer, Refusal>
+        ensures { Answers (open_questions props filter (recording self.old.design.recorder)) result (λ a. (a ≡ Enter (recording self.old.design.recorder).account.layers) × (recording self.new.design.recorder ≡ after_opening props filter (recording self.old.design.recorder))) (self.new.design.recorder ≡ self.old.design.recorder) }
+    {
+        match self.make(Call::Open { props, filter }) {
+            Made::Entered(layer) => Ok(Answer::Enter(layer)),
+            Made::Refused(refusal) => Err(refusal),
+            _ => unreachable!(),
+        }
+    }
+
+    // Closes the innermost layer. Answers its number and its kind.
+    pub fn close(&mut self) -> Result<Answer, Refusal>
+        ensures { Answers (close_questions (recording self.old.design.recorder).account) result (λ a. (layer : ℕ) × (active (recording self.old.design.recorder) ≡ Some layer) × (a ≡ Leave layer (innermost_kind (recording self.old.design.recorder).account.opened)) × (recording self.new.design.recorder ≡ after_closing (recording self.old.design.recorder))) (self.new.design.recorder ≡ self.old.design.recorder) }
+    {
+        let Some(layer) = self.recorder().active_layer() else {
+            return Err(Refusal::NoLayerOpen);
+        };
+        match self.make(Call::Close) {
+            Made::Left(kind) => Ok(Answer::Leave(layer, kind)),
+            Made::Refused(refusal) => Err(refusal),
+            _ => unreachable!(),
+        }
     }
 
     // How many places the list of a walk gets: as many as there is room for, or just enough.

@@ -20,7 +20,7 @@ loop-i-preserved g c =
     let lt : c.loop-i.i < length c.args.calls.now = omega arith in
     let lt' : c.loop-i.i < length c.loop-i.answers = omega arith in
     reached-next _ _ c.args.draws.now c.args.calls.now c.loop-i.answers c.args.answers.now c.loop-i.i c.index-calls-i.result c.make_call.result _ _ _ _
-    lt lt' c.index-calls-i.is (omega arith) c.make_call.ensures c.loop-i.invariant
+    lt lt' c.index-calls-i.is (omega arith) c.make_call.ensures.made c.loop-i.invariant
 
 pub returns : goal.returns
 returns g c =
