@@ -39,8 +39,6 @@ impl Head {
             "open" => Some(Head::Call(Verb::Open)),
             "close" => Some(Head::Call(Verb::Close)),
             "walk" => Some(Head::Call(Verb::Walk)),
-            "tile" => Some(Head::Call(Verb::Tile)),
-            "hit" => Some(Head::Call(Verb::Hit)),
             "report" => Some(Head::Call(Verb::Report)),
             _ => None,
         }
