@@ -45,14 +45,16 @@ Begins {D = D} draws =
     (word : List ℕ) (before : Line) (draw : Result D Refusal) (after : Line) → draws word before draw after → (word ≡ codes "fill") ⊎ (word ≡ codes "run")
 
 abbrev pub fill_of : Line → Read (RectU16 × Option BlendMode)
-fill_of words = both rect_of mode_of words
+fill_of words =
+    and_then (rect_of words) (λ rect words. and_then (mode_of words) (λ mode words. Some ((rect, mode), words)))
 
 abbrev pub FillWords : Draws Fill
 FillWords word before draw after =
     (word ≡ codes "fill") × ((rect : RectU16) × (mode : Option BlendMode) × (fill_of before ≡ Some ((rect, mode), after)) × Answers ((fits rect, 1) ∷ []) draw (λ f. (f.rect ≡ rect) × (f.blend_mode ≡ mode)) (Unit {0}))
 
 abbrev pub run_of : Line → Read Run
-run_of words = and_then (range_of words) (λ r words. Some (record { start = r.0; end = r.1 }, words))
+run_of words =
+    and_then (count_of words) (λ start words. and_then (count_of words) (λ end words. Some (record { start = start; end = end }, words)))
 
 abbrev pub RunWords : Draws Run
 RunWords word before draw after = (word ≡ codes "run") × ((run : Run) × (run_of before ≡ Some (run, after)) × (draw ≡ Ok run))

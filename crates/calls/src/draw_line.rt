@@ -84,7 +84,8 @@ impl DrawLine for Run {
         if word != "run" {
             return Err(Reason::FillAmongRuns);
         }
-        let (start, end) = words.pair32()?;
+        let start = words.number32()?;
+        let end = words.number32()?;
         Ok(Ok(Run { start, end }))
     }
 }
