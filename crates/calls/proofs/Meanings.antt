@@ -1,9 +1,8 @@
 -- What a line says by its first word, and what it is read as by that word's head, are the same.
-use Rattle.std.proofs.Common.{◌≡◌, ℕ, ◌⊎◌, true, false, List, [], ◌∷◌, Some, None, codes, Option, Result, sym, refl, ap, ◌∙◌, subst, ⊎_elim}
+use Rattle.std.proofs.Common.{◌≡◌, ℕ, List, [], ◌∷◌, Some, None, codes, Option, sym, refl, ap, ◌∙◌, subst, ⊎_elim}
 use Rattle.std.specs.Str.{bytes_eq}
 use Rattle.std.proofs.lemmas.Slice.Eq.{bytes_eq-Decides}
 use Rattle.std.proofs.lemmas.Bool.{cases_Bool}
-use Rattle.refusal.specs.declared.Refusal.{Refusal}
 use Rattle.text.specs.Readers.{Line}
 use Rattle.text.proofs.Tellings.{some_same}
 use Rattle.parts.proofs.Opacities.{opens-same}
@@ -16,7 +15,7 @@ use Rattle.calls.specs.declared.head.Head.{Head}
 use Rattle.calls.specs.declared.head.Head.TheVariants as head
 use Rattle.calls.specs.declared.head.Verb.TheVariants as verb
 use Rattle.calls.specs.Calls.{Draws, Begins, Says, SaysEntry}
-use Rattle.calls.specs.Heads.{named, heads, head_of, SaysCall, SaysHead, SaysBy}
+use Rattle.calls.specs.Heads.{named, heads, head_of, SaysBy}
 
 -- what holds where a word is that of a row, for each row
 abbrev Rows : {A : Type 0} → (Option A → Type 0) → List ℕ → List (List ℕ × A) → Type 0

@@ -10,7 +10,7 @@ use Rattle.draws.specs.declared.fill.Fill.{Fill}
 use Rattle.draws.specs.declared.run.Run.{Run}
 use Rattle.parts.specs.Openings.{open_of}
 use Rattle.parts.specs.Shapes.{strip_of, rect_of, tile_of, mode_of}
-use Rattle.text.specs.Readers.{Line, Read, and_then, edge_of, count_of, both, range_of, following, optional}
+use Rattle.text.specs.Readers.{Line, Read, and_then, edge_of, count_of, following, optional}
 use Rattle.text.specs.Words.{words_of}
 use Rattle.tiles.specs.declared.surface.Surface.{Surface}
 use Rattle.tiles.specs.declared.surface.Surface.TheVariants.{Scene, Layer}
@@ -74,7 +74,7 @@ abbrev pub tile_call_of : Line → Read (Surface × Tile × Option ℕ)
 tile_call_of words =
     and_then (surface_of words) (λ surface words. and_then (tile_of words) (λ tile words. and_then (room_of words) (λ room words. Some ((surface, tile, room), words))))
 
--- The first word and those before say the call, and those after are left.
+-- The first word and those before say the call, and those after are left. No line says a tile walk or a hit yet.
 abbrev pub Says : {D : Type 0} → Draws D → List ℕ → Line → Call D → Line → Type 0
 Says draws word before (Reset width height) after = (word ≡ codes "reset") × (size_of before ≡ Some ((width, height), after))
 Says draws word before (Draw draw) after = draws word before draw after

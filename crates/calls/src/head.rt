@@ -4,6 +4,7 @@ ghost use Rattle.calls.specs.Heads.{head_of};
 
 use crate::draw_line::Kind;
 
+// No word is that of a tile walk or a hit yet.
 #[derive(Clone, Copy)]
 pub enum Verb {
     Reset,

@@ -3,12 +3,11 @@ use Rattle.std.specs.Prelude.{◌≡◌, ℕ, false, cond, [], ◌∷◌, pos, S
 use Rattle.std.specs.Float.{fin}
 use Rattle.std.specs.Float.Parse.{is_float_text}
 use Rattle.std.specs.Option.{unwrap_or}
-use Rattle.geometry.specs.declared.padding.PaddingU16.{PaddingU16}
 use Rattle.filter.specs.declared.data.FilterData.{FilterData}
 use Rattle.layers.specs.declared.props.LayerClip.{LayerClip}
 use Rattle.layers.specs.declared.props.LayerProps.{LayerProps}
 use Rattle.layers.specs.declared.props.StripRange.{StripRange}
-use Rattle.text.specs.Readers.{Line, Read, and_then, byte_of, count_of, both, range_of, following, optional, behind, By}
+use Rattle.text.specs.Readers.{Line, Read, and_then, byte_of, count_of, range_of, following, optional, behind, By}
 use Rattle.parts.specs.Shapes.{rect_of, mode_of, padding_of}
 
 abbrev pub opacity_after : Float → Option Line → Line → Read Float
