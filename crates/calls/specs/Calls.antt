@@ -1,5 +1,5 @@
--- What a line says.
-use Rattle.std.specs.Prelude.{◌≡◌, ℕ, Bool, true, false, List, [], ◌∷◌, Some, None, Ok, codes, IsUtf8, Option, Result, MatchOption, MatchResult, ◌≢◌, slice_index}
+-- Which words say which call, and what a line says.
+use Rattle.std.specs.Prelude.{◌≡◌, ℕ, Bool, true, false, ◌⊎◌, List, [], ◌∷◌, Some, None, Ok, codes, IsUtf8, Option, Result, MatchOption, MatchResult, ◌≢◌, slice_index}
 use Rattle.geometry.specs.declared.rect.RectU16.{RectU16}
 use Rattle.geometry.specs.declared.tile.Tile.{Tile}
 use Rattle.refusal.specs.Refusals.{Answers}
@@ -8,55 +8,56 @@ use Rattle.draws.specs.Fits.{fits}
 use Rattle.draws.specs.declared.blend.BlendMode.{BlendMode}
 use Rattle.draws.specs.declared.fill.Fill.{Fill}
 use Rattle.draws.specs.declared.run.Run.{Run}
-use Rattle.parts.specs.Openings.{Opens}
+use Rattle.parts.specs.Openings.{open_of}
 use Rattle.parts.specs.Shapes.{strip_of, rect_of, tile_of, mode_of}
-use Rattle.text.specs.Readers.{Line, Read, and_then, count_of, both, pair_of, range_of, following, optional, By, Making}
+use Rattle.text.specs.Readers.{Line, Read, and_then, edge_of, count_of, following, optional}
 use Rattle.text.specs.Words.{words_of}
 use Rattle.tiles.specs.declared.surface.Surface.{Surface}
 use Rattle.tiles.specs.declared.surface.Surface.TheVariants.{Scene, Layer}
 use Rattle.calls.specs.declared.call.Call.{Call}
 use Rattle.calls.specs.declared.call.Call.TheVariants as call
+use Rattle.calls.specs.declared.call.Call.TheVariants.{Reset, Draw, Open, Close, Walk, Report}
 use Rattle.calls.specs.declared.draw_line.Kind.{Kind}
 use Rattle.calls.specs.declared.draw_line.Kind.TheVariants as kind
 use Rattle.calls.specs.declared.entry.Entry.{Entry}
 use Rattle.calls.specs.declared.entry.Entry.TheVariants as entry
-use Rattle.calls.specs.declared.head.Head.{Head}
-use Rattle.calls.specs.declared.head.Head.TheVariants as head
-use Rattle.calls.specs.declared.head.Verb.{Verb}
-use Rattle.calls.specs.declared.head.Verb.TheVariants as verb
-use Rattle.calls.specs.Heads.{head_of}
 
 abbrev pub is_draw : {D : Type 0} → Call D → Bool
-is_draw (call.Reset width height) = false
-is_draw (call.Draw draw) = true
-is_draw (call.Open props filter) = false
-is_draw call.Close = false
-is_draw (call.Walk room) = false
+is_draw (Reset width height) = false
+is_draw (Draw draw) = true
+is_draw (Open props filter) = false
+is_draw Close = false
+is_draw (Walk room) = false
 is_draw (call.Tile surface tile room) = false
 is_draw (call.Hit tile) = false
-is_draw call.Report = false
+is_draw Report = false
 
--- a draw that a line of this kind of draw says, or why there is none
+abbrev pub size_of : Line → Read (ℕ × ℕ)
+size_of words = and_then (edge_of words) (λ width words. and_then (edge_of words) (λ height words. Some ((width, height), words)))
+
+-- a draw that the words after the first word may say, with what they leave
 abbrev pub Draws : Type 0 → Type 1
-Draws D = Kind → Line → Result D Refusal → Line → Type 0
+Draws D = List ℕ → Line → Result D Refusal → Line → Type 0
+
+-- no other word than those of the kinds of draw begins a line that says a draw
+abbrev pub Begins : {D : Type 0} → Draws D → Type 0
+Begins {D = D} draws =
+    (word : List ℕ) (before : Line) (draw : Result D Refusal) (after : Line) → draws word before draw after → (word ≡ codes "fill") ⊎ (word ≡ codes "run")
 
 abbrev pub fill_of : Line → Read (RectU16 × Option BlendMode)
-fill_of words = both rect_of mode_of words
+fill_of words =
+    and_then (rect_of words) (λ rect words. and_then (mode_of words) (λ mode words. Some ((rect, mode), words)))
 
 abbrev pub FillWords : Draws Fill
-FillWords kind.Fill before draw after =
-    (rect : RectU16) × (mode : Option BlendMode) × (fill_of before ≡ Some ((rect, mode), after)) × Answers ((fits rect, 1) ∷ []) draw (λ f. (f.rect ≡ rect) × (f.blend_mode ≡ mode)) (Unit {0})
-FillWords kind.Run before draw after = ⊥
+FillWords word before draw after =
+    (word ≡ codes "fill") × ((rect : RectU16) × (mode : Option BlendMode) × (fill_of before ≡ Some ((rect, mode), after)) × Answers ((fits rect, 1) ∷ []) draw (λ f. (f.rect ≡ rect) × (f.blend_mode ≡ mode)) (Unit {0}))
 
 abbrev pub run_of : Line → Read Run
-run_of words = and_then (range_of words) (λ r words. Some (record { start = r.0; end = r.1 }, words))
+run_of words =
+    and_then (count_of words) (λ start words. and_then (count_of words) (λ end words. Some (record { start = start; end = end }, words)))
 
 abbrev pub RunWords : Draws Run
-RunWords kind.Fill before draw after = ⊥
-RunWords kind.Run before draw after = Making (By run_of) Ok before draw after
-
-abbrev pub nothing_of : Line → Read (Unit {0})
-nothing_of words = Some (tt, words)
+RunWords word before draw after = (word ≡ codes "run") × ((run : Run) × (run_of before ≡ Some (run, after)) × (draw ≡ Ok run))
 
 abbrev pub room_of : Line → Read (Option ℕ)
 room_of words = optional (codes "room") count_of words
@@ -73,16 +74,17 @@ abbrev pub tile_call_of : Line → Read (Surface × Tile × Option ℕ)
 tile_call_of words =
     and_then (surface_of words) (λ surface words. and_then (tile_of words) (λ tile words. and_then (room_of words) (λ room words. Some ((surface, tile, room), words))))
 
--- the call that the words after the first say
-abbrev pub SaysCall : {D : Type 0} → Draws D → Verb → Line → Call D → Line → Type 0
-SaysCall draws verb.Reset before c after = Making (By pair_of) (λ size. call.Reset size.0 size.1) before c after
-SaysCall draws (verb.Draw kind) before c after = Making (draws kind) call.Draw before c after
-SaysCall draws verb.Open before c after = Making Opens (λ opening. call.Open opening.0 opening.1) before c after
-SaysCall draws verb.Close before c after = Making (By nothing_of) (λ _. call.Close) before c after
-SaysCall draws verb.Walk before c after = Making (By room_of) call.Walk before c after
-SaysCall draws verb.Tile before c after = Making (By tile_call_of) (λ t. call.Tile t.0 t.1 t.2) before c after
-SaysCall draws verb.Hit before c after = Making (By tile_of) call.Hit before c after
-SaysCall draws verb.Report before c after = Making (By nothing_of) (λ _. call.Report) before c after
+-- The first word and those before say the call, and those after are left. No line says a tile walk or a hit yet.
+abbrev pub Says : {D : Type 0} → Draws D → List ℕ → Line → Call D → Line → Type 0
+Says draws word before (Reset width height) after = (word ≡ codes "reset") × (size_of before ≡ Some ((width, height), after))
+Says draws word before (Draw draw) after = draws word before draw after
+Says draws word before (Open props filter) after =
+    (word ≡ codes "open") × (open_of props.opacity before ≡ Some ((props, filter), after))
+Says draws word before Close after = (word ≡ codes "close") × (before ≡ after)
+Says draws word before (Walk room) after = (word ≡ codes "walk") × (room_of before ≡ Some (room, after))
+Says draws word before (call.Tile surface tile room) after = ⊥
+Says draws word before (call.Hit tile) after = ⊥
+Says draws word before Report after = (word ≡ codes "report") × (before ≡ after)
 
 abbrev pub kind_after : Option Line → Option Line → Read Kind
 kind_after (Some rest) run = Some (kind.Fill, rest)
@@ -92,17 +94,12 @@ kind_after None None = None
 abbrev pub kind_of : Line → Read Kind
 kind_of words = kind_after (following (codes "fill") words) (following (codes "run") words)
 
--- whatever the words after the first say
-abbrev pub SaysEntry : {D : Type 0} → Draws D → Head → Line → Entry D → Line → Type 0
-SaysEntry draws head.Kind before e after = Making (By kind_of) entry.Kind before e after
-SaysEntry draws head.Strip before e after = Making (By strip_of) entry.Strip before e after
-SaysEntry draws head.Places before e after = Making (By count_of) entry.Places before e after
-SaysEntry draws (head.Call verb) before e after = Making (SaysCall draws verb) entry.Call before e after
-
--- all of the words after the first together say it
-abbrev pub SaysBy : {D : Type 0} → Draws D → Option Head → Line → Entry D → Type 0
-SaysBy draws None words e = ⊥
-SaysBy draws (Some head) words e = SaysEntry draws head words e []
+-- the same of whatever a line can say
+abbrev pub SaysEntry : {D : Type 0} → Draws D → List ℕ → Line → Entry D → Line → Type 0
+SaysEntry draws word before (entry.Kind k) after = (word ≡ codes "kind") × (kind_of before ≡ Some (k, after))
+SaysEntry draws word before (entry.Strip strip) after = (word ≡ codes "strip") × (strip_of before ≡ Some (strip, after))
+SaysEntry draws word before (entry.Places places) after = (word ≡ codes "places") × (count_of before ≡ Some (places, after))
+SaysEntry draws word before (entry.Call call) after = Says draws word before call after
 
 -- a line without a word, or whose first word begins with #, is passed over
 abbrev pub PassedOver : Line → Type 0
@@ -111,8 +108,8 @@ PassedOver (word ∷ words) = slice_index word 0 ≡ 35
 
 -- all words of the line together say the entry
 abbrev pub SaysAll : {D : Type 0} → Draws D → Line → Entry D → Type 0
-SaysAll draws [] e = ⊥
-SaysAll draws (word ∷ words) e = (slice_index word 0 ≢ 35) × SaysBy draws (head_of word) words e
+SaysAll draws [] entry = ⊥
+SaysAll draws (word ∷ words) entry = (slice_index word 0 ≢ 35) × SaysEntry draws word words entry []
 
 -- where the line is text at all, it is not passed over, and says no entry
 abbrev pub SaysNothing : {D : Type 0} → Draws D → List ℕ → Type 0

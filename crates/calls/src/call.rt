@@ -2,7 +2,8 @@
 ghost use Rattle.std.specs.Prelude.{◌≡◌};
 ghost use Rattle.text.specs.Readers.{left, Reads, Told};
 ghost use Rattle.calls.specs.declared.head.Verb.TheVariants as verb;
-ghost use Rattle.calls.specs.Calls.{is_draw, surface_of, SaysCall};
+ghost use Rattle.calls.specs.Calls.{is_draw, surface_of};
+ghost use Rattle.calls.specs.Heads.{SaysCall};
 
 use crate::draw_line::{DrawLine, Kind};
 use crate::head::Verb;
@@ -66,7 +67,7 @@ fn read_reset<D: DrawLine>(words: &mut Words<'_>) -> Result<Call<D>, Reason>
 fn read_draw<D: DrawLine>(kind: Kind, words: &mut Words<'_>) -> Result<Call<D>, Reason>
     ensures { Told (SaysCall D.Written (verb.Draw kind)) (left words.old) result (left words.new) }
 {
-    Ok(Call::Draw(D::read(kind, words)?))
+    Ok(Call::Draw(D::read(kind.word(), words)?))
 }
 
 // All parts of an opening

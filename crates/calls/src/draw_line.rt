@@ -1,9 +1,10 @@
 // The kinds of draw, as a script writes them.
-ghost use Rattle.std.specs.Prelude.{ℕ, List, Result};
+ghost use Rattle.std.specs.Prelude.{◌≡◌, ℕ, List, Result};
+ghost use Rattle.std.proofs.Common.{inl, inr};
 ghost use Rattle.refusal.specs.declared.Refusal.{Refusal};
 ghost use Rattle.text.specs.Readers.{left, Told};
-ghost use Rattle.calls.specs.declared.draw_line.Kind.{Kind as KindOfDraw};
-ghost use Rattle.calls.specs.Calls.{FillWords, RunWords};
+ghost use Rattle.calls.specs.Calls.{Begins, FillWords, RunWords};
+ghost use Rattle.calls.specs.Heads.{kind_word};
 
 use draws::drawable::Drawable;
 use draws::fill::Fill;
@@ -22,52 +23,69 @@ pub enum Kind {
     Run,
 }
 
+impl Kind {
+    // The first word of a line that draws.
+    pub fn word(self) -> &'static str
+        ensures { result.now ≡ kind_word self }
+    {
+        match self {
+            Kind::Fill => "fill",
+            Kind::Run => "run",
+        }
+    }
+}
+
 // A draw that a line of a script can write.
 pub trait DrawLine: Drawable + Clone + Copy {
     // What stands in a draw list where no draw is recorded yet.
     fn blank() -> Self;
 
-    // The kind of draw and the words of a line, the draw that they say, and the words that are left.
-    ghost Written: { KindOfDraw → List (List ℕ) → Result Self Refusal → List (List ℕ) → Type 0 };
+    // The first word of a line and the words after it, the draw that they say, and the words that are left.
+    ghost Written: { List ℕ → List (List ℕ) → Result Self Refusal → List (List ℕ) → Type 0 };
 
-    // The draw of a line, or why there is no such draw. A line of the other kind is faulty.
-    fn read(kind: Kind, words: &mut Words<'_>) -> Result<Result<Self, Refusal>, Reason>
-        ensures { Told (Written kind) (left words.old) result (left words.new) };
+    // The draw of a line that begins with `word`, or why there is no such draw.
+    // A line that begins with the word of another kind is faulty.
+    fn read(word: &str, words: &mut Words<'_>) -> Result<Result<Self, Refusal>, Reason>
+        ensures { Told (Written word.now) (left words.old) result (left words.new) };
+
+    // A line that begins with any other word says no draw.
+    ghost begins: { Begins Written };
 }
 
 impl DrawLine for Fill {
-    ghost Written = { FillWords };
+    ghost Written = { λ word before draw after. FillWords word before draw after };
+
+    ghost begins = { λ word before draw after says. inl says.0 };
 
     fn blank() -> Fill {
         Fill::new(RectU16::ZERO, None).unwrap()
     }
 
-    fn read(kind: Kind, words: &mut Words<'_>) -> Result<Result<Fill, Refusal>, Reason> {
-        match kind {
-            Kind::Fill => {
-                let rect = read_rect(words)?;
-                let mode = read_mode(words)?;
-                Ok(Fill::new(rect, mode))
-            }
-            Kind::Run => Err(Reason::RunAmongFills),
+    fn read(word: &str, words: &mut Words<'_>) -> Result<Result<Fill, Refusal>, Reason> {
+        if word != "fill" {
+            return Err(Reason::RunAmongFills);
         }
+        let rect = read_rect(words)?;
+        let mode = read_mode(words)?;
+        Ok(Fill::new(rect, mode))
     }
 }
 
 impl DrawLine for Run {
-    ghost Written = { RunWords };
+    ghost Written = { λ word before draw after. RunWords word before draw after };
+
+    ghost begins = { λ word before draw after says. inr says.0 };
 
     fn blank() -> Run {
         Run { start: 0, end: 0 }
     }
 
-    fn read(kind: Kind, words: &mut Words<'_>) -> Result<Result<Run, Refusal>, Reason> {
-        match kind {
-            Kind::Fill => Err(Reason::FillAmongRuns),
-            Kind::Run => {
-                let (start, end) = words.pair32()?;
-                Ok(Ok(Run { start, end }))
-            }
+    fn read(word: &str, words: &mut Words<'_>) -> Result<Result<Run, Refusal>, Reason> {
+        if word != "run" {
+            return Err(Reason::FillAmongRuns);
         }
+        let start = words.number32()?;
+        let end = words.number32()?;
+        Ok(Ok(Run { start, end }))
     }
 }

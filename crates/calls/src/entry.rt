@@ -1,10 +1,10 @@
 // What one line of a script says.
-ghost use Rattle.std.specs.Prelude.{◌≡◌, ◌∷◌, IsUtf8, MatchOption, MatchResult, ◌≢◌, slice_index};
+ghost use Rattle.std.specs.Prelude.{◌≡◌, [], ◌∷◌, IsUtf8, MatchOption, MatchResult, ◌≢◌, slice_index};
 ghost use Rattle.text.specs.Readers.{left, Reads, Told};
 ghost use Rattle.text.specs.Words.{words_of};
 ghost use Rattle.calls.specs.declared.entry.Entry.{Entry as EntryOf};
-ghost use Rattle.calls.specs.Calls.{kind_of, SaysEntry, SaysBy, PassedOver, ReadsLine};
-ghost use Rattle.calls.specs.Heads.{head_of};
+ghost use Rattle.calls.specs.Calls.{kind_of, SaysEntry, PassedOver, ReadsLine};
+ghost use Rattle.calls.specs.Heads.{SaysHead};
 
 use crate::call::{Call, read_call};
 use crate::draw_line::{DrawLine, Kind};
@@ -37,7 +37,7 @@ pub fn read_kind(words: &mut Words<'_>) -> Result<Kind, Reason>
 
 // What a line says that begins with this head, and perhaps more words after it.
 fn read_parts<D: DrawLine>(head: Head, words: &mut Words<'_>) -> Result<Entry<D>, Reason>
-    ensures { Told (SaysEntry D.Written head) (left words.old) result (left words.new) }
+    ensures { Told (SaysHead D.Written head) (left words.old) result (left words.new) }
 {
     match head {
         Head::Kind => Ok(Entry::Kind(read_kind(words)?)),
@@ -49,7 +49,7 @@ fn read_parts<D: DrawLine>(head: Head, words: &mut Words<'_>) -> Result<Entry<D>
 
 // What all words of a line say, the first of which is `word`.
 fn read_words<D: DrawLine>(word: &str, mut words: Words<'_>) -> Result<Entry<D>, Reason>
-    ensures { MatchResult result (λ entry. SaysBy D.Written (head_of word.now) (left words.entry) entry) (λ _. (e : EntryOf D) → SaysBy D.Written (head_of word.now) (left words.entry) e → ⊥) }
+    ensures { MatchResult result (λ entry. SaysEntry D.Written word.now (left words.entry) entry []) (λ _. (e : EntryOf D) → SaysEntry D.Written word.now (left words.entry) e [] → ⊥) }
 {
     let Some(head) = Head::read(word) else {
         return Err(Reason::UnknownWord);

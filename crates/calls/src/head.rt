@@ -4,6 +4,7 @@ ghost use Rattle.calls.specs.Heads.{head_of};
 
 use crate::draw_line::Kind;
 
+// No word is that of a tile walk or a hit yet.
 #[derive(Clone, Copy)]
 pub enum Verb {
     Reset,
@@ -39,8 +40,6 @@ impl Head {
             "open" => Some(Head::Call(Verb::Open)),
             "close" => Some(Head::Call(Verb::Close)),
             "walk" => Some(Head::Call(Verb::Walk)),
-            "tile" => Some(Head::Call(Verb::Tile)),
-            "hit" => Some(Head::Call(Verb::Hit)),
             "report" => Some(Head::Call(Verb::Report)),
             _ => None,
         }

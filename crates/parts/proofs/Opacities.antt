@@ -1,8 +1,9 @@
 -- The opacity of a layer.
-use Rattle.std.proofs.Common.{◌≡◌, false, [], ◌∷◌, pos, Some, None, codes, Option, sym, refl, ap, ◌∙◌, ⊎_elim}
+use Rattle.std.proofs.Common.{◌≡◌, false, [], ◌∷◌, pos, Some, None, codes, Option, sym, refl, ap, ◌∙◌, subst, ⊎_elim}
 use lib.Count.{count_trailing_zeros}
 use lib.Ieee.{Float, of_bits, of_fields, odd, binary32, fin}
 use Rattle.std.specs.Float.Parse.{is_float_text}
+use Rattle.layers.specs.declared.props.LayerProps.{LayerProps}
 use Rattle.std.proofs.lemmas.Bool.{cases_Bool}
 use Rattle.text.specs.Readers.{Line, Read, and_then, following, Sole, Mute}
 use Rattle.parts.specs.Openings.{opacity_after, opacity_of, mask_of, clip_of, props_of, filter_of, Opening, open_of, Opens}
@@ -47,3 +48,32 @@ module _ (o : Float) (before : Line) where
 
   pub mute-opens : open_of o before ≡ None → Mute Opens before
   mute-opens none b rest (o', f) = none≢some (left_open o' o before ∙ ap left_by none) (ap left_by f)
+
+-- what is said, whatever the opacity is read as, is said as well where it is read as what it was found to be
+read-then : {A B : Type 0} (x : Read A) (f : A → Line → Read B) (b : B) (rest : Line) → and_then x f ≡ Some (b, rest) → (a : A) × (words : Line) × (x ≡ Some (a, words)) × (f a words ≡ Some (b, rest))
+read-then None f b rest e = absurd (none≢some refl e)
+read-then (Some p) f b rest e = (p.0, p.1, refl, e)
+
+opacity-same : (o a : Float) (before : Option Line) (words rest : Line) → opacity_after o before words ≡ Some (a, rest) → opacity_after a before words ≡ Some (a, rest)
+opacity-same o a None words rest e = e
+opacity-same o a (Some []) words rest e = absurd (none≢some refl e)
+opacity-same o a (Some (word ∷ more)) words rest e =
+    ⊎_elim (λ yes. let f : Some (o, more) ≡ Some (a, rest) = rw yes at e in rw yes (ap (λ p. Some (a, p.1)) (some_same f))) (λ no. let f = rw no at e in absurd (none≢some refl f)) (cases_Bool (is_float_text word))
+
+props-same : (o : Float) (props : LayerProps) (words rest : Line) → props_of o words ≡ Some (props, rest) → props_of props.opacity words ≡ Some (props, rest)
+props-same o props words rest e =
+    let (mode, w1, mode-is, e1) = read-then (mode_of words) _ props rest e in
+    let (a, w2, opacity-is, e2) = read-then (opacity_of o w1) _ props rest e1 in
+    let (mask, w3, mask-is, e3) = read-then (mask_of w2) _ props rest e2 in
+    let (clip, w4, clip-is, e4) = read-then (clip_of w3) _ props rest e3 in
+    let is : a ≡ props.opacity = ap (λ p. p.0.opacity) (some_same e4) in
+    let again : opacity_of props.opacity w1 ≡ Some (a, w2) = subst (λ o. opacity_of o w1 ≡ Some (a, w2)) is (opacity-same o a (following (codes "opacity") w1) w1 w2 opacity-is) in
+    rw (mode-is, again, mask-is, clip-is) e4
+
+pub opens-same : (o : Float) (opening : Opening) (words rest : Line) → open_of o words ≡ Some (opening, rest) → open_of opening.0.opacity words ≡ Some (opening, rest)
+opens-same o opening words rest e =
+    let (props, w1, props-is, e1) = read-then (props_of o words) _ opening rest e in
+    let (filter, w2, filter-is, e2) = read-then (filter_of w1) _ opening rest e1 in
+    let is : props ≡ opening.0 = ap (λ p. p.0.0) (some_same e2) in
+    let again : props_of opening.0.opacity words ≡ Some (props, w1) = subst (λ p. props_of p.opacity words ≡ Some (props, w1)) is (props-same o props words w1 props-is) in
+    rw (again, filter-is) e2

@@ -3,12 +3,11 @@ use Rattle.std.specs.Prelude.{◌≡◌, ℕ, false, cond, [], ◌∷◌, pos, S
 use Rattle.std.specs.Float.{fin}
 use Rattle.std.specs.Float.Parse.{is_float_text}
 use Rattle.std.specs.Option.{unwrap_or}
-use Rattle.geometry.specs.declared.padding.PaddingU16.{PaddingU16}
 use Rattle.filter.specs.declared.data.FilterData.{FilterData}
 use Rattle.layers.specs.declared.props.LayerClip.{LayerClip}
 use Rattle.layers.specs.declared.props.LayerProps.{LayerProps}
 use Rattle.layers.specs.declared.props.StripRange.{StripRange}
-use Rattle.text.specs.Readers.{Line, Read, and_then, byte_of, count_of, both, range_of, following, optional, behind, By}
+use Rattle.text.specs.Readers.{Line, Read, and_then, byte_of, count_of, range_of, following, optional, behind, By}
 use Rattle.parts.specs.Shapes.{rect_of, mode_of, padding_of}
 
 abbrev pub opacity_after : Float → Option Line → Line → Read Float
@@ -42,26 +41,19 @@ abbrev pub props_of : Float → Line → Read LayerProps
 props_of opacity words =
     and_then (mode_of words) (λ mode words. and_then (opacity_of opacity words) (λ o words. and_then (mask_of words) (λ mask words. and_then (clip_of words) (λ clip words. Some (record { blend_mode = unwrap_or mode (record { mix = 0; compose = 3 }); opacity = o; mask = mask; clip_path = clip }, words)))))
 
-abbrev pub pad_of : Line → Read PaddingU16
-pad_of words = behind (following (codes "pad") words) padding_of
-
-abbrev pub source_of : Line → Read PaddingU16
-source_of words = behind (following (codes "source") words) padding_of
-
--- both paddings, if there is a filter
-abbrev pub paddings_after : Option ℕ → Line → Read (Option FilterData)
-paddings_after None words = Some (None, words)
-paddings_after (Some filter) words =
-    and_then (both pad_of source_of words) (λ p words. Some (Some (record { filter = filter; filter_padding = p.0; source_padding = p.1 }), words))
+abbrev pub filter_and_paddings : Line → Read FilterData
+filter_and_paddings words =
+    and_then (count_of words) (λ filter words. and_then (behind (following (codes "pad") words) padding_of) (λ pad words. and_then (behind (following (codes "source") words) padding_of) (λ source words. Some (record { filter = filter; filter_padding = pad; source_padding = source }, words))))
 
 abbrev pub filter_of : Line → Read (Option FilterData)
-filter_of words = and_then (optional (codes "filter") count_of words) paddings_after
+filter_of words = optional (codes "filter") filter_and_paddings words
 
 abbrev pub Opening : Type 0
 Opening = LayerProps × Option FilterData
 
 abbrev pub open_of : Float → Line → Read Opening
-open_of opacity words = both (props_of opacity) filter_of words
+open_of opacity words =
+    and_then (props_of opacity words) (λ props words. and_then (filter_of words) (λ filter words. Some ((props, filter), words)))
 
 -- an opening, whatever its opacity is read as
 abbrev pub Opens : Line → Opening → Line → Type 0

@@ -87,9 +87,10 @@ fn read_padding(words: &mut Words<'_>, word: &str, missing: Reason) -> Result<Pa
 fn read_filter(words: &mut Words<'_>) -> Result<Option<FilterData>, Reason>
     ensures { Reads filter_of (left words.old) result (left words.new) }
 {
-    let Some(filter) = words.number32_after("filter")? else {
+    if !words.take("filter") {
         return Ok(None);
-    };
+    }
+    let filter = words.number32()?;
     let filter_padding = read_padding(words, "pad", Reason::PadMissing)?;
     let source_padding = read_padding(words, "source", Reason::SourceMissing)?;
     Ok(Some(FilterData {

@@ -53,9 +53,6 @@ fn faulty_words(rt: HostRuntime) {
             faulty("open filter 1 source 0 0 0 0\n", 1, Reason::PadMissing),
             faulty("open filter 1 pad 0 0 0 0\n", 1, Reason::SourceMissing),
             faulty("kind\n", 1, Reason::UnknownKind),
-            faulty("tile\n", 1, Reason::UnknownSurface),
-            faulty("tile here 0 0\n", 1, Reason::UnknownSurface),
-            faulty("hit 0 0 room 1\n", 1, Reason::SurplusWord),
         ],
     );
 }
@@ -71,9 +68,6 @@ fn faulty_numbers(rt: HostRuntime) {
             faulty("reset 65535 65536\n", 1, Reason::NumberTooLarge),
             faulty("fill 0 0 1 1 mode 255 256\n", 1, Reason::NumberTooLarge),
             faulty("walk room 4294967296\n", 1, Reason::NumberTooLarge),
-            faulty("tile 4294967296 0 0\n", 1, Reason::NumberTooLarge),
-            faulty("tile scene 0 65536\n", 1, Reason::NumberTooLarge),
-            faulty("hit 1\n", 1, Reason::NumberMissing),
         ],
     );
 }
@@ -121,7 +115,6 @@ fn no_faults(rt: HostRuntime) {
         "",
         "\t# nothing\r\n \n",
         "reset 65535 065535\r\n \tclose\t\nreport",
-        "tile scene 65535 65535\ntile 4294967295 0 0 room 0\nhit 65535 0\n",
         "kind run\nstrip 0 0 65535\nplaces 4294967295\nrun 0 4294967295\n",
         "open mode 255 255 opacity NaN mask 1 clip 0 0 4 4 path 1 2 255 filter 1 pad 1 2 3 4 source 4 4 0 0\n",
     ];

@@ -6,12 +6,13 @@ use Rattle.text.specs.Words.{words_of}
 use Rattle.calls.specs.declared.entry.Entry.{Entry}
 use Rattle.calls.specs.declared.head.Head.{Head}
 use Rattle.calls.specs.declared.head.Head.TheVariants as head
-use Rattle.calls.specs.Calls.{Draws, SaysEntry, SaysBy, PassedOver, SaysAll}
-use Rattle.calls.specs.Heads.{head_of}
+use Rattle.calls.specs.Calls.{Draws, Begins, PassedOver, SaysAll}
+use Rattle.calls.specs.Heads.{head_of, SaysHead, SaysBy}
+use Rattle.calls.proofs.Meanings.{entry-says}
 use Rattle.script.specs.Readings.{LineFaulty}
 use Rattle.script.specs.Sheets.{View, allowed}
 
-module _ {D : Type 0} (draws : Draws D) (v : View D) where
+module _ {D : Type 0} (draws : Draws D) (begins : Begins draws) (v : View D) where
   -- whether an entry may stand there is seen from its line's first word
   abbrev allowed_by : Head → Bool
   allowed_by head.Kind = not v.begun
@@ -19,7 +20,7 @@ module _ {D : Type 0} (draws : Draws D) (v : View D) where
   allowed_by head.Places = eqb (length v.lines) 0 && not (is_some v.places)
   allowed_by (head.Call verb) = true
 
-  allowed-by : (h : Head) (words rest : Line) (e : Entry D) → SaysEntry draws h words e rest → allowed v e ≡ allowed_by h
+  allowed-by : (h : Head) (words rest : Line) (e : Entry D) → SaysHead draws h words e rest → allowed v e ≡ allowed_by h
   allowed-by head.Kind words rest e (a, by, is) = ap (allowed v) is
   allowed-by head.Strip words rest e (a, by, is) = ap (allowed v) is
   allowed-by head.Places words rest e (a, by, is) = ap (allowed v) is
@@ -32,7 +33,8 @@ module _ {D : Type 0} (draws : Draws D) (v : View D) where
   -- and so is the same of all that a line may say
   pub allowed_same : (words : Line) (e d : Entry D) → SaysAll draws words e → SaysAll draws words d → allowed v e ≡ allowed v d
   allowed_same [] e d says said = absurd says
-  allowed_same (word ∷ words) e d says said = allowed-head (head_of word) words e d says.1 said.1
+  allowed_same (word ∷ words) e d says said =
+      allowed-head (head_of word) words e d (entry-says draws word words begins e says.1) (entry-says draws word words begins d said.1)
 
   not-over : (words : Line) (e : Entry D) → SaysAll draws words e → PassedOver words → ⊥
   not-over [] e says over = says

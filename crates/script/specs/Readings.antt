@@ -33,9 +33,14 @@ FirstFault draws v n (line ∷ lines) k =
     ((k ≡ n + 1) × LineFaulty draws v (n + 1) line) ⊎ ((u : View _) × LineLeads draws v (n + 1) line u × FirstFault draws u (n + 1) lines k)
 
 -- a fault of this line, or no fault at all
+abbrev pub FaultOf : ℕ → Unread → Type 0
+FaultOf number (Faulty fault) = fault.line ≡ number
+FaultOf number NoMemory = Unit {0}
+
+-- the same, and a line that is named as faulty is so
 abbrev pub StopsAt : {D : Type 0} → Draws D → View D → ℕ → List ℕ → Unread → Type 0
-StopsAt draws v number line (Faulty fault) = (fault.line ≡ number) × LineFaulty draws v number line
-StopsAt draws v number line NoMemory = Unit {0}
+StopsAt draws v number line (Faulty fault) = FaultOf number (Faulty fault) × LineFaulty draws v number line
+StopsAt draws v number line NoMemory = FaultOf number NoMemory
 
 -- the line that is named as faulty is so, and none before it
 abbrev pub Stopped : {D : Type 0} → Draws D → List (List ℕ) → Unread → Type 0

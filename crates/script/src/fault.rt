@@ -4,7 +4,7 @@ ghost use Rattle.script.specs.declared.fault.Unread.TheVariants.{NoMemory};
 
 use std::alloc::{AllocError, AllocFailed};
 use std::fmt;
-use text::reason::Reason;
+pub use text::reason::Reason;
 
 // The first faulty line of a script, counted from 1.
 #[derive(Clone, Copy, Debug, PartialEq, Eq)]

@@ -4,3 +4,5 @@
 pub mod fault;
 pub mod script;
 pub mod sheet;
+
+pub use calls::{call, draw_line};

@@ -16,7 +16,5 @@ returns-in_default c =
       differs word (codes "open") no.not-open,
       differs word (codes "close") no.not-close,
       differs word (codes "walk") no.not-walk,
-      differs word (codes "tile") no.not-tile,
-      differs word (codes "hit") no.not-hit,
       differs word (codes "report") no.not-report,
     ) refl
