@@ -7,7 +7,7 @@ use Rattle.filter.specs.declared.data.FilterData.{FilterData}
 use Rattle.layers.specs.declared.props.LayerClip.{LayerClip}
 use Rattle.layers.specs.declared.props.LayerProps.{LayerProps}
 use Rattle.layers.specs.declared.props.StripRange.{StripRange}
-use Rattle.text.specs.Readers.{Line, Read, and_then, byte_of, count_of, range_of, following, optional, behind, By}
+use Rattle.text.specs.Readers.{Line, Read, and_then, byte_of, count_of, following, optional, behind, By}
 use Rattle.parts.specs.Shapes.{rect_of, mode_of, padding_of}
 
 abbrev pub opacity_after : Float → Option Line → Line → Read Float
@@ -24,7 +24,7 @@ mask_of words = optional (codes "mask") count_of words
 
 abbrev pub range_and_thread : Line → Read (StripRange × ℕ)
 range_and_thread words =
-    and_then (range_of words) (λ r words. and_then (byte_of words) (λ thread words. Some ((record { start = r.0; end = r.1 }, thread), words)))
+    and_then (count_of words) (λ start words. and_then (count_of words) (λ end words. and_then (byte_of words) (λ thread words. Some ((record { start = start; end = end }, thread), words))))
 
 abbrev pub path_of : Line → Read (StripRange × ℕ)
 path_of words =
