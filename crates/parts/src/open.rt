@@ -57,7 +57,7 @@ fn read_clip(words: &mut Words<'_>) -> Result<Option<LayerClip>, Reason>
 }
 
 // All but the filter. The default mode where none is written.
-fn read_props(words: &mut Words<'_>) -> Result<LayerProps, Reason>
+pub fn read_props(words: &mut Words<'_>) -> Result<LayerProps, Reason>
     ensures { ReadsWith props_of (λ props. props.opacity) (left words.old) result (left words.new) }
 {
     let blend_mode = read_mode(words)?.unwrap_or(BlendMode::DEFAULT);
@@ -84,7 +84,7 @@ fn read_padding(words: &mut Words<'_>, word: &str, missing: Reason) -> Result<Pa
 }
 
 // `[filter N pad L T R B source L T R B]`
-fn read_filter(words: &mut Words<'_>) -> Result<Option<FilterData>, Reason>
+pub fn read_filter(words: &mut Words<'_>) -> Result<Option<FilterData>, Reason>
     ensures { Reads filter_of (left words.old) result (left words.new) }
 {
     if !words.take("filter") {

@@ -19,7 +19,7 @@ fn is_numeral(word: &str) -> bool
 }
 
 // The number that the word writes in digits alone, if it is at most `most`. Leading zeros are allowed.
-pub(crate) fn read_number(word: &str, most: u32) -> Result<u32, Reason>
+pub fn read_number(word: &str, most: u32) -> Result<u32, Reason>
     ensures value { OkIff result (Numeral word.now × (value_of word.now ≤ most)) (value_of word.now) }
     ensures reason { IfErr result (λ e. (Numeral word.now → e ≡ NumberTooLarge) × ((Numeral word.now → ⊥) → e ≡ NotANumber)) }
 {
