@@ -2,7 +2,7 @@
 ghost use Rattle.std.specs.Prelude.{◌≡◌};
 ghost use Rattle.text.specs.Readers.{left, Reads, Told};
 ghost use Rattle.calls.specs.declared.head.Verb.TheVariants as verb;
-ghost use Rattle.calls.specs.Calls.{is_draw, surface_of};
+ghost use Rattle.calls.specs.Calls.{is_draw, room_of, surface_of};
 ghost use Rattle.calls.specs.Heads.{SaysCall};
 
 use crate::draw_line::{DrawLine, Kind};
@@ -79,10 +79,17 @@ fn read_open<D: DrawLine>(words: &mut Words<'_>) -> Result<Call<D>, Reason>
 }
 
 // `[room N]`
+fn read_room(words: &mut Words<'_>) -> Result<Option<u32>, Reason>
+    ensures { Reads room_of (left words.old) result (left words.new) }
+{
+    words.number32_after("room")
+}
+
+// `[room N]`
 fn read_walk<D: DrawLine>(words: &mut Words<'_>) -> Result<Call<D>, Reason>
     ensures { Told (SaysCall D.Written verb.Walk) (left words.old) result (left words.new) }
 {
-    let room = words.number32_after("room")?;
+    let room = read_room(words)?;
     Ok(Call::Walk { room })
 }
 
@@ -106,7 +113,7 @@ fn read_tile_walk<D: DrawLine>(words: &mut Words<'_>) -> Result<Call<D>, Reason>
 {
     let surface = read_surface(words)?;
     let tile = read_tile(words)?;
-    let room = words.number32_after("room")?;
+    let room = read_room(words)?;
     Ok(Call::Tile {
         surface,
         tile,

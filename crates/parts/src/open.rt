@@ -1,6 +1,6 @@
 // The opening of a layer, as a script writes it. Its parts stand in one order, and each may be left out.
 ghost use Rattle.text.specs.Readers.{left, Reads, Told, following, behind};
-ghost use Rattle.parts.specs.Openings.{ReadsWith, opacity_of, path_of, clip_of, props_of, filter_of, Opens};
+ghost use Rattle.parts.specs.Openings.{ReadsWith, opacity_of, mask_of, path_of, clip_of, props_of, filter_of, Opens};
 ghost use Rattle.parts.specs.Shapes.{padding_of};
 
 use crate::mode::read_mode;
@@ -56,13 +56,20 @@ fn read_clip(words: &mut Words<'_>) -> Result<Option<LayerClip>, Reason>
     }))
 }
 
+// `[mask N]`
+fn read_mask(words: &mut Words<'_>) -> Result<Option<u32>, Reason>
+    ensures { Reads mask_of (left words.old) result (left words.new) }
+{
+    words.number32_after("mask")
+}
+
 // All but the filter. The default mode where none is written.
 pub fn read_props(words: &mut Words<'_>) -> Result<LayerProps, Reason>
     ensures { ReadsWith props_of (λ props. props.opacity) (left words.old) result (left words.new) }
 {
     let blend_mode = read_mode(words)?.unwrap_or(BlendMode::DEFAULT);
     let opacity = read_opacity(words)?;
-    let mask = words.number32_after("mask")?;
+    let mask = read_mask(words)?;
     let clip_path = read_clip(words)?;
     Ok(LayerProps {
         blend_mode,
@@ -72,15 +79,26 @@ pub fn read_props(words: &mut Words<'_>) -> Result<LayerProps, Reason>
     })
 }
 
-// `LEFT TOP RIGHT BOTTOM` after `word`, without which the line is faulty
-fn read_padding(words: &mut Words<'_>, word: &str, missing: Reason) -> Result<PaddingU16, Reason>
+// `LEFT TOP RIGHT BOTTOM`
+fn read_padding(words: &mut Words<'_>) -> Result<PaddingU16, Reason>
+    ensures { Reads padding_of (left words.old) result (left words.new) }
+{
+    let ((left, top), (right, bottom)) = words.pairs16()?;
+    Ok(PaddingU16::new(left, top, right, bottom))
+}
+
+// A padding after `word`, without which the line is faulty
+fn read_padding_after(
+    words: &mut Words<'_>,
+    word: &str,
+    missing: Reason,
+) -> Result<PaddingU16, Reason>
     ensures { Reads (λ before. behind (following word.now before) padding_of) (left words.old) result (left words.new) }
 {
     if !words.take(word) {
         return Err(missing);
     }
-    let ((left, top), (right, bottom)) = words.pairs16()?;
-    Ok(PaddingU16::new(left, top, right, bottom))
+    read_padding(words)
 }
 
 // `[filter N pad L T R B source L T R B]`
@@ -91,8 +109,8 @@ pub fn read_filter(words: &mut Words<'_>) -> Result<Option<FilterData>, Reason>
         return Ok(None);
     }
     let filter = words.number32()?;
-    let filter_padding = read_padding(words, "pad", Reason::PadMissing)?;
-    let source_padding = read_padding(words, "source", Reason::SourceMissing)?;
+    let filter_padding = read_padding_after(words, "pad", Reason::PadMissing)?;
+    let source_padding = read_padding_after(words, "source", Reason::SourceMissing)?;
     Ok(Some(FilterData {
         filter,
         filter_padding,

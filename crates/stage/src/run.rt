@@ -1,5 +1,5 @@
 // Makes the calls of a sheet, and prints a line for each.
-ghost use Rattle.std.specs.Prelude.{◌≡◌};
+ghost use Rattle.std.specs.Prelude.{◌≡◌, None};
 ghost use Rattle.stage.specs.Calls.{recording_call};
 
 use crate::answer::{Answer, Found, Hit, Refused, Walk, Walked};
@@ -100,12 +100,14 @@ fn print_hit<W: Write>(
     }
 }
 
-// Prints what a line asks of the recording: a walk, a hit or a report.
+// Prints what a line asks of the recording, where it records nothing: a walk, a hit or a report.
 fn ask<D: DrawLine, W: Write>(
     stage: &Stage<'_, D>,
     line: &Line<D>,
     out: &mut W,
-) -> Result<(), Failure> {
+) -> Result<(), Failure>
+    requires { recording_call line.now ≡ None }
+{
     let number = line.number;
     match &line.call {
         Call::Walk { room } => print_walk(out, number, Walk::Full, stage.walk(*room)?)?,
@@ -131,7 +133,7 @@ fn ask<D: DrawLine, W: Write>(
         }
         // There is no such draw, so that nothing is recorded.
         Call::Draw(Err(refusal)) => print_refused(out, number, *refusal)?,
-        _ => {}
+        Call::Reset { .. } | Call::Draw(Ok(_)) | Call::Open { .. } | Call::Close => unreachable!(),
     }
     Ok(())
 }
@@ -162,10 +164,15 @@ pub fn run_sheet<D: DrawLine, W: Write>(
     Ok(())
 }
 
-// Reads a script and makes its calls. Every fault of the script is found before its first call is made.
-pub fn run_script<W: Write>(heap: Global, script: &[u8], out: &mut W) -> Result<(), Failure> {
-    match &read_script(heap, script)? {
+// Makes the calls of a script that was read.
+pub fn run_read<W: Write>(heap: Global, script: &Script, out: &mut W) -> Result<(), Failure> {
+    match script {
         Script::Fills(sheet) => run_sheet(heap, sheet, out),
         Script::Runs(sheet) => run_sheet(heap, sheet, out),
     }
+}
+
+// Reads a script and makes its calls. Every fault of the script is found before its first call is made.
+pub fn run_script<W: Write>(heap: Global, script: &[u8], out: &mut W) -> Result<(), Failure> {
+    run_read(heap, &read_script(heap, script)?, out)
 }
