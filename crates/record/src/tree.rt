@@ -17,7 +17,7 @@ pub struct LayerTable {
 
 #[derive(Drop)]
 pub struct Tree {
-    pub(crate) nodes: [Node; 513],
+    pub(crate) nodes: [Node; MAX_NODES],
     pub(crate) node_count: usize,
     pub(crate) layers: LayerTable,
     // The numbers of the filter layers, in the order in which they were opened.

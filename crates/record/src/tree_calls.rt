@@ -5,7 +5,7 @@ ghost use Rattle.layers.specs.Records.{recorded_closed};
 ghost use Rattle.record.specs.Tree.{tree_of, layers_of, empty_tree, with_nodes, tree_after_draw, tree_after_opening, tree_after_closing, change_at, with_filters};
 
 use crate::owner::same_owner;
-use crate::tree::{LayerTable, Tree};
+use crate::tree::{LayerTable, MAX_NODES, Tree};
 use draws::blend::BlendMode;
 use filter::data::FilterData;
 use geometry::rect::RectU16;
@@ -72,7 +72,7 @@ impl Tree {
                 end: 0,
                 layer: None,
                 owner: None,
-            }; 513],
+            }; MAX_NODES],
             node_count: 0,
             layers: LayerTable::new(),
             filter_layers: [0; 256],

@@ -1,5 +1,8 @@
 // Makes the calls of a sheet, and prints a line for each.
-ghost use Rattle.std.specs.Prelude.{◌≡◌, None};
+ghost use Rattle.std.specs.Prelude.{◌≡◌, None, is_ok, if◌then◌else◌};
+ghost use Rattle.draws.specs.declared.tagged.Tagged.{Tagged};
+ghost use Rattle.ledger.specs.Ledger.{Ledger, noted};
+ghost use Rattle.ledger.specs.Reached.{Reached};
 ghost use Rattle.stage.specs.Calls.{recording_call};
 
 use crate::answer::{Answer, Found, Hit, Refused, Walk, Walked};
@@ -11,7 +14,7 @@ use calls::draw_line::DrawLine;
 use draws::tagged::Tagged;
 use geometry::tile::Tile;
 use refusal::Refusal;
-use script::script::{Script, read_script};
+use script::script::Script;
 use script::sheet::{Line, Sheet};
 use std::alloc::Global;
 use std::io;
@@ -34,14 +37,17 @@ fn print_answer<W: Write>(
     }
 }
 
-// Makes a recording call.
+// Makes a recording call. Every ledger that led to the design leads on, with the call noted where it was accepted.
 fn record<D: DrawLine>(
     stage: &mut Stage<'_, D>,
     call: ledger::call::Call<Tagged<D>>,
-) -> Result<Answer, Refusal> {
+) -> Result<Answer, Refusal>
+    ensures leads { (b : Ledger (Tagged D)) → Reached (λ d strips. D.Drawable.box_of d.draw strips) (λ d. D.Drawable.mode_of d.draw) b stage.old.design → Reached (λ d strips. D.Drawable.box_of d.draw strips) (λ d. D.Drawable.mode_of d.draw) (if is_ok result then noted b call else b) stage.new.design }
+    ensures strips { stage.new.design.strips.now ≡ stage.old.design.strips.now }
+{
     match call {
         ledger::call::Call::Reset { width, height } => stage.reset(width, height),
-        ledger::call::Call::Draw(Tagged { draw, line }) => stage.draw(draw, line),
+        ledger::call::Call::Draw(tagged) => stage.draw(tagged.draw, tagged.line),
         ledger::call::Call::Open { props, filter } => stage.open(props, filter),
         ledger::call::Call::Close => stage.close(),
     }
@@ -164,15 +170,10 @@ pub fn run_sheet<D: DrawLine, W: Write>(
     Ok(())
 }
 
-// Makes the calls of a script that was read.
+// Makes the calls of a script that was read. Every fault of a script is found when it is read, before its first call is made.
 pub fn run_read<W: Write>(heap: Global, script: &Script, out: &mut W) -> Result<(), Failure> {
     match script {
         Script::Fills(sheet) => run_sheet(heap, sheet, out),
         Script::Runs(sheet) => run_sheet(heap, sheet, out),
     }
-}
-
-// Reads a script and makes its calls. Every fault of the script is found before its first call is made.
-pub fn run_script<W: Write>(heap: Global, script: &[u8], out: &mut W) -> Result<(), Failure> {
-    run_read(heap, &read_script(heap, script)?, out)
 }

@@ -1,5 +1,5 @@
 // A design as a script makes it, and the lists of its walks.
-ghost use Rattle.std.specs.Prelude.{◌≡◌, ℕ, false, min, IfOk, Some, vec_len};
+ghost use Rattle.std.specs.Prelude.{◌≡◌, ℕ, false, min, IfOk, OnErr, Some, vec_len, is_ok, if◌then◌else◌};
 ghost use Rattle.std.specs.Option.{unwrap_or};
 ghost use Rattle.refusal.specs.Refusals.{Answers};
 ghost use Rattle.draws.specs.declared.tagged.Tagged.{Tagged};
@@ -9,7 +9,8 @@ ghost use Rattle.record.specs.Recording.{recording, draw_questions, reset_questi
 ghost use Rattle.walk.specs.FullWalk.{listed, entry_count, walk_questions};
 ghost use Rattle.tiles.specs.declared.surface.Surface.TheVariants.{Scene};
 ghost use Rattle.tiles.specs.Tile.{tile_listed, tile_questions, hit_questions};
-ghost use Rattle.ledger.specs.Ledger.{Ledger, empty, after, accepted};
+ghost use Rattle.ledger.specs.Ledger.{Ledger, empty, after, accepted, noted};
+ghost use Rattle.ledger.specs.declared.call.Call.TheVariants as call;
 ghost use Rattle.ledger.specs.Made.{Made as CallMade};
 ghost use Rattle.ledger.specs.Reached.{Reached};
 ghost use Rattle.script.specs.Sheets.{draw_lines};
@@ -36,8 +37,6 @@ use walk::listed::Listed;
 pub struct Stage<'a, D: Drop> {
     heap: Global,
     design: Design<'a, Tagged<D>>,
-    // Empty: it names the type of the design's own list here, which the checker needs (docs/DECISIONS.md).
-    unused: Vec<Listed>,
 }
 
 // How many places the draw list gets: as many as the script says, or one for each of its draw lines.
@@ -55,7 +54,9 @@ fn draw_places<D>(sheet: &Sheet<D>) -> usize
 impl<'a, D: DrawLine> Stage<'a, D> {
     // Nothing is recorded yet.
     pub fn new(heap: Global, sheet: &'a Sheet<D>) -> Result<Stage<'a, D>, AllocError>
-        ensures { IfOk result (λ stage. Reached (λ d strips. D.Drawable.box_of d.draw strips) (λ d. D.Drawable.mode_of d.draw) empty stage.design) }
+        ensures begun { IfOk result (λ stage. Reached (λ d strips. D.Drawable.box_of d.draw strips) (λ d. D.Drawable.mode_of d.draw) empty stage.design) }
+        ensures places { IfOk result (λ stage. vec_len stage.design.draws ≡ min (unwrap_or sheet.now.places (draw_lines sheet.now.lines.items)) 1048576) }
+        ensures strips { IfOk result (λ stage. stage.design.strips.now ≡ sheet.now.strips.items) }
     {
         let blank = Tagged {
             draw: D::blank(),
@@ -63,18 +64,14 @@ impl<'a, D: DrawLine> Stage<'a, D> {
         };
         let draws = vec![in heap; blank; draw_places(sheet)]?;
         let design = Design::new(draws, sheet.strips.as_slice());
-        let unused = Vec::new(heap);
-        Ok(Stage {
-            heap,
-            design,
-            unused,
-        })
+        Ok(Stage { heap, design })
     }
 
     // Makes one recording call. A refused one alters nothing.
     pub fn make(&mut self, call: Call<Tagged<D>>) -> Made
         ensures kept { accepted result ≡ false → self.new.design.recorder ≡ self.old.design.recorder }
         ensures made { CallMade (λ d. D.Drawable.box_of d.draw self.old.design.strips.now) (λ d. D.Drawable.mode_of d.draw) call result (recording self.old.design.recorder) (recording self.new.design.recorder) self.old.design.draws.items self.new.design.draws.items }
+        ensures strips { self.new.design.strips.now ≡ self.old.design.strips.now }
         ensures leads { (b : Ledger (Tagged D)) → Reached (λ d strips. D.Drawable.box_of d.draw strips) (λ d. D.Drawable.mode_of d.draw) b self.old.design → Reached (λ d strips. D.Drawable.box_of d.draw strips) (λ d. D.Drawable.mode_of d.draw) (after b call result) self.new.design }
     {
         self.design.make(call)
@@ -82,7 +79,10 @@ impl<'a, D: DrawLine> Stage<'a, D> {
 
     // Empties the recording and sets the scene. Answers the scene that was set.
     pub fn reset(&mut self, width: u16, height: u16) -> Result<Answer, Refusal>
-        ensures { Answers (reset_questions width height) result (λ a. (a ≡ Reset (recording self.new.design.recorder).account.scene) × (recording self.new.design.recorder ≡ after_reset width height)) (self.new.design.recorder ≡ self.old.design.recorder) }
+        ensures answers { Answers (reset_questions width height) result (λ a. (a ≡ Reset (recording self.new.design.recorder).account.scene) × (recording self.new.design.recorder ≡ after_reset width height)) (self.new.design.recorder ≡ self.old.design.recorder) }
+        ensures list { self.new.design.draws.items ≡ self.old.design.draws.items }
+        ensures strips { self.new.design.strips.now ≡ self.old.design.strips.now }
+        ensures leads { (b : Ledger (Tagged D)) → Reached (λ d strips. D.Drawable.box_of d.draw strips) (λ d. D.Drawable.mode_of d.draw) b self.old.design → Reached (λ d strips. D.Drawable.box_of d.draw strips) (λ d. D.Drawable.mode_of d.draw) (if is_ok result then noted b (call.Reset width height) else b) self.new.design }
     {
         match self.make(Call::Reset { width, height }) {
             Made::Reset => Ok(Answer::Reset(self.recorder().scene_size())),
@@ -93,7 +93,10 @@ impl<'a, D: DrawLine> Stage<'a, D> {
 
     // Records a draw with the line that made it. Answers its number.
     pub fn draw(&mut self, draw: D, line: u32) -> Result<Answer, Refusal>
-        ensures { Answers (draw_questions (vec_len self.old.design.draws) (recording self.old.design.recorder)) result (λ a. (n : ℕ) × (a ≡ Draw n) × Pushed n (record { draw = draw; line = line }) (D.Drawable.box_of draw self.old.design.strips.now) (D.Drawable.mode_of draw) (recording self.old.design.recorder) (recording self.new.design.recorder) self.old.design.draws.items self.new.design.draws.items) (self.new.design.recorder ≡ self.old.design.recorder) }
+        ensures answers { Answers (draw_questions (vec_len self.old.design.draws) (recording self.old.design.recorder)) result (λ a. (n : ℕ) × (a ≡ Draw n) × Pushed n (record { draw = draw; line = line }) (D.Drawable.box_of draw self.old.design.strips.now) (D.Drawable.mode_of draw) (recording self.old.design.recorder) (recording self.new.design.recorder) self.old.design.draws.items self.new.design.draws.items) (self.new.design.recorder ≡ self.old.design.recorder) }
+        ensures list { OnErr result (self.new.design.draws.items ≡ self.old.design.draws.items) }
+        ensures strips { self.new.design.strips.now ≡ self.old.design.strips.now }
+        ensures leads { (b : Ledger (Tagged D)) → Reached (λ d strips. D.Drawable.box_of d.draw strips) (λ d. D.Drawable.mode_of d.draw) b self.old.design → Reached (λ d strips. D.Drawable.box_of d.draw strips) (λ d. D.Drawable.mode_of d.draw) (if is_ok result then noted b (call.Draw (record { draw = draw; line = line })) else b) self.new.design }
     {
         match self.make(Call::Draw(Tagged { draw, line })) {
             Made::Drawn(number) => Ok(Answer::Draw(number)),
@@ -103,8 +106,12 @@ impl<'a, D: DrawLine> Stage<'a, D> {
     }
 
     // Opens a layer. Answers its number.
+    #[tactic(auto, using(crate::proofs::Answers::fits_or_refused))]
     pub fn open(&mut self, props: LayerProps, filter: Option<FilterData>) -> Result<Answer, Refusal>
-        ensures { Answers (open_questions props filter (recording self.old.design.recorder)) result (λ a. (a ≡ Enter (recording self.old.design.recorder).account.layers) × (recording self.new.design.recorder ≡ after_opening props filter (recording self.old.design.recorder))) (self.new.design.recorder ≡ self.old.design.recorder) }
+        ensures answers { Answers (open_questions props filter (recording self.old.design.recorder)) result (λ a. (a ≡ Enter (recording self.old.design.recorder).account.layers) × (recording self.new.design.recorder ≡ after_opening props filter (recording self.old.design.recorder))) (self.new.design.recorder ≡ self.old.design.recorder) }
+        ensures list { self.new.design.draws.items ≡ self.old.design.draws.items }
+        ensures strips { self.new.design.strips.now ≡ self.old.design.strips.now }
+        ensures leads { (b : Ledger (Tagged D)) → Reached (λ d strips. D.Drawable.box_of d.draw strips) (λ d. D.Drawable.mode_of d.draw) b self.old.design → Reached (λ d strips. D.Drawable.box_of d.draw strips) (λ d. D.Drawable.mode_of d.draw) (if is_ok result then noted b (call.Open props filter) else b) self.new.design }
     {
         match self.make(Call::Open { props, filter }) {
             Made::Entered(layer) => Ok(Answer::Enter(layer)),
@@ -115,7 +122,10 @@ impl<'a, D: DrawLine> Stage<'a, D> {
 
     // Closes the innermost layer. Answers its number and its kind.
     pub fn close(&mut self) -> Result<Answer, Refusal>
-        ensures { Answers (close_questions (recording self.old.design.recorder).account) result (λ a. (layer : ℕ) × (active (recording self.old.design.recorder) ≡ Some layer) × (a ≡ Leave layer (innermost_kind (recording self.old.design.recorder).account.opened)) × (recording self.new.design.recorder ≡ after_closing (recording self.old.design.recorder))) (self.new.design.recorder ≡ self.old.design.recorder) }
+        ensures answers { Answers (close_questions (recording self.old.design.recorder).account) result (λ a. (layer : ℕ) × (active (recording self.old.design.recorder) ≡ Some layer) × (a ≡ Leave layer (innermost_kind (recording self.old.design.recorder).account.opened)) × (recording self.new.design.recorder ≡ after_closing (recording self.old.design.recorder))) (self.new.design.recorder ≡ self.old.design.recorder) }
+        ensures list { self.new.design.draws.items ≡ self.old.design.draws.items }
+        ensures strips { self.new.design.strips.now ≡ self.old.design.strips.now }
+        ensures leads { (b : Ledger (Tagged D)) → Reached (λ d strips. D.Drawable.box_of d.draw strips) (λ d. D.Drawable.mode_of d.draw) b self.old.design → Reached (λ d strips. D.Drawable.box_of d.draw strips) (λ d. D.Drawable.mode_of d.draw) (if is_ok result then noted b call.Close else b) self.new.design }
     {
         let Some(layer) = self.recorder().active_layer() else {
             return Err(Refusal::NoLayerOpen);
