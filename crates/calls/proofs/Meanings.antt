@@ -5,7 +5,6 @@ use Rattle.std.proofs.lemmas.Slice.Eq.{bytes_eq-Decides}
 use Rattle.std.proofs.lemmas.Bool.{cases_Bool}
 use Rattle.text.specs.Readers.{Line}
 use Rattle.text.proofs.Tellings.{some_same}
-use Rattle.parts.proofs.Opacities.{opens-same}
 use Rattle.calls.specs.declared.call.Call.{Call}
 use Rattle.calls.specs.declared.call.Call.TheVariants as call
 use Rattle.calls.specs.declared.draw_line.Kind.TheVariants as kind
@@ -14,8 +13,8 @@ use Rattle.calls.specs.declared.entry.Entry.TheVariants as entry
 use Rattle.calls.specs.declared.head.Head.{Head}
 use Rattle.calls.specs.declared.head.Head.TheVariants as head
 use Rattle.calls.specs.declared.head.Verb.TheVariants as verb
-use Rattle.calls.specs.Calls.{Draws, Begins, Says, SaysEntry}
-use Rattle.calls.specs.Heads.{named, heads, head_of, SaysBy}
+use Rattle.calls.specs.Calls.{Draws, Begins, Says, SaysEntry, named}
+use Rattle.calls.specs.Heads.{heads, head_of, SaysHead, SaysBy}
 
 -- what holds where a word is that of a row, for each row
 abbrev Rows : {A : Type 0} → (Option A → Type 0) → List ℕ → List (List ℕ × A) → Type 0
@@ -53,7 +52,7 @@ module _ {D : Type 0} (draws : Draws D) (word : List ℕ) (words : Line) where
                 (
                   λ same e (c, (draw, by, is), made). meant-call (call.Draw draw) c e is made (subst (λ w. draws w words draw []) (sym same) by),
                   (
-                    λ same e (c, (opening, (o, by), is), made). meant-call (call.Open opening.0 opening.1) c e is made (same, opens-same o opening words [] by),
+                    λ same e (c, (opening, by, is), made). meant-call (call.Open opening.0 opening.1) c e is made (same, by),
                     (
                       λ same e (c, (u, by, is), made). meant-call call.Close c e is made (same, ap (λ p. p.1) (some_same by)),
                       (
@@ -72,6 +71,10 @@ module _ {D : Type 0} (draws : Draws D) (word : List ℕ) (words : Line) where
         ),
       ) (λ e says. absurd says)
 
+  -- the same of a word whose head is known
+  pub by-head : (h : Head) → head_of word ≡ Some h → (e : Entry D) → SaysHead draws h words e [] → SaysEntry draws word words e []
+  by-head h known e says = says-entry e (subst (λ h. SaysBy draws h words e) (sym known) says)
+
   -- the other way round, where other words say no draw
   module _ (begins : Begins draws) where
     said : (h : Option Head) (name : List ℕ) → word ≡ name → head_of name ≡ h → (e : Entry D) → SaysBy draws h words e → SaysBy draws (head_of word) words e
@@ -84,9 +87,12 @@ module _ {D : Type 0} (draws : Draws D) (word : List ℕ) (words : Line) where
     entry-says (entry.Call (call.Reset w h)) (same, by) = said (Some (head.Call verb.Reset)) (codes "reset") same refl _ (call.Reset w h, ((w, h), by, refl), refl)
     entry-says (entry.Call (call.Draw draw)) by =
         ⊎_elim (λ same. said (Some (head.Call (verb.Draw kind.Fill))) (codes "fill") same refl _ (call.Draw draw, (draw, subst (λ w. draws w words draw []) same by, refl), refl)) (λ same. said (Some (head.Call (verb.Draw kind.Run))) (codes "run") same refl _ (call.Draw draw, (draw, subst (λ w. draws w words draw []) same by, refl), refl)) (begins word words draw [] by)
-    entry-says (entry.Call (call.Open props filter)) (same, by) = said (Some (head.Call verb.Open)) (codes "open") same refl _ (call.Open props filter, ((props, filter), (props.opacity, by), refl), refl)
+    entry-says (entry.Call (call.Open props filter)) (same, by) = said (Some (head.Call verb.Open)) (codes "open") same refl _ (call.Open props filter, ((props, filter), by, refl), refl)
     entry-says (entry.Call call.Close) (same, by) = said (Some (head.Call verb.Close)) (codes "close") same refl _ (call.Close, (tt, ap (λ r. Some (tt, r)) by, refl), refl)
     entry-says (entry.Call (call.Walk room)) (same, by) = said (Some (head.Call verb.Walk)) (codes "walk") same refl _ (call.Walk room, (room, by, refl), refl)
     entry-says (entry.Call (call.Tile surface tile room)) by = absurd by
     entry-says (entry.Call (call.Hit tile)) by = absurd by
     entry-says (entry.Call call.Report) (same, by) = said (Some (head.Call verb.Report)) (codes "report") same refl _ (call.Report, (tt, ap (λ r. Some (tt, r)) by, refl), refl)
+
+    pub head-says : (h : Head) → head_of word ≡ Some h → (e : Entry D) → SaysEntry draws word words e [] → SaysHead draws h words e []
+    head-says h known e says = rw known at (entry-says e says)

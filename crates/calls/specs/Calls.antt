@@ -1,5 +1,7 @@
 -- Which words say which call, and what a line says.
-use Rattle.std.specs.Prelude.{◌≡◌, ℕ, Bool, true, false, ◌⊎◌, List, [], ◌∷◌, Some, None, Ok, codes, IsUtf8, Option, Result, MatchOption, MatchResult, ◌≢◌, slice_index}
+use Rattle.std.specs.Option.{option_map}
+use Rattle.std.specs.Str.{bytes_eq}
+use Rattle.std.specs.Prelude.{◌≡◌, ℕ, Bool, true, false, cond, ◌⊎◌, List, [], ◌∷◌, Some, None, Ok, codes, IsUtf8, Option, Result, MatchOption, MatchResult, ◌≢◌, slice_index}
 use Rattle.geometry.specs.declared.rect.RectU16.{RectU16}
 use Rattle.geometry.specs.declared.tile.Tile.{Tile}
 use Rattle.refusal.specs.Refusals.{Answers}
@@ -10,7 +12,7 @@ use Rattle.draws.specs.declared.fill.Fill.{Fill}
 use Rattle.draws.specs.declared.run.Run.{Run}
 use Rattle.parts.specs.Openings.{open_of}
 use Rattle.parts.specs.Shapes.{strip_of, rect_of, tile_of, mode_of}
-use Rattle.text.specs.Readers.{Line, Read, and_then, edge_of, count_of, following, optional}
+use Rattle.text.specs.Readers.{Line, Read, and_then, count_of, both, pair_of, range_of, following, optional}
 use Rattle.text.specs.Words.{words_of}
 use Rattle.tiles.specs.declared.surface.Surface.{Surface}
 use Rattle.tiles.specs.declared.surface.Surface.TheVariants.{Scene, Layer}
@@ -33,7 +35,7 @@ is_draw (call.Hit tile) = false
 is_draw Report = false
 
 abbrev pub size_of : Line → Read (ℕ × ℕ)
-size_of words = and_then (edge_of words) (λ width words. and_then (edge_of words) (λ height words. Some ((width, height), words)))
+size_of words = pair_of words
 
 -- a draw that the words after the first word may say, with what they leave
 abbrev pub Draws : Type 0 → Type 1
@@ -45,16 +47,14 @@ Begins {D = D} draws =
     (word : List ℕ) (before : Line) (draw : Result D Refusal) (after : Line) → draws word before draw after → (word ≡ codes "fill") ⊎ (word ≡ codes "run")
 
 abbrev pub fill_of : Line → Read (RectU16 × Option BlendMode)
-fill_of words =
-    and_then (rect_of words) (λ rect words. and_then (mode_of words) (λ mode words. Some ((rect, mode), words)))
+fill_of words = both rect_of mode_of words
 
 abbrev pub FillWords : Draws Fill
 FillWords word before draw after =
     (word ≡ codes "fill") × ((rect : RectU16) × (mode : Option BlendMode) × (fill_of before ≡ Some ((rect, mode), after)) × Answers ((fits rect, 1) ∷ []) draw (λ f. (f.rect ≡ rect) × (f.blend_mode ≡ mode)) (Unit {0}))
 
 abbrev pub run_of : Line → Read Run
-run_of words =
-    and_then (count_of words) (λ start words. and_then (count_of words) (λ end words. Some (record { start = start; end = end }, words)))
+run_of words = and_then (range_of words) (λ r words. Some (record { start = r.0; end = r.1 }, words))
 
 abbrev pub RunWords : Draws Run
 RunWords word before draw after = (word ≡ codes "run") × ((run : Run) × (run_of before ≡ Some (run, after)) × (draw ≡ Ok run))
@@ -79,20 +79,24 @@ abbrev pub Says : {D : Type 0} → Draws D → List ℕ → Line → Call D → 
 Says draws word before (Reset width height) after = (word ≡ codes "reset") × (size_of before ≡ Some ((width, height), after))
 Says draws word before (Draw draw) after = draws word before draw after
 Says draws word before (Open props filter) after =
-    (word ≡ codes "open") × (open_of props.opacity before ≡ Some ((props, filter), after))
+    (word ≡ codes "open") × (open_of before ≡ Some ((props, filter), after))
 Says draws word before Close after = (word ≡ codes "close") × (before ≡ after)
 Says draws word before (Walk room) after = (word ≡ codes "walk") × (room_of before ≡ Some (room, after))
 Says draws word before (call.Tile surface tile room) after = ⊥
 Says draws word before (call.Hit tile) after = ⊥
 Says draws word before Report after = (word ≡ codes "report") × (before ≡ after)
 
-abbrev pub kind_after : Option Line → Option Line → Read Kind
-kind_after (Some rest) run = Some (kind.Fill, rest)
-kind_after None (Some rest) = Some (kind.Run, rest)
-kind_after None None = None
+-- what stands beside a word in a table
+abbrev pub named : {A : Type 0} → List (List ℕ × A) → List ℕ → Option A
+named [] word = None
+named (row ∷ table) word = cond (bytes_eq word row.0) (Some row.1) (named table word)
+
+abbrev pub kinds : List (List ℕ × Kind)
+kinds = (codes "fill", kind.Fill) ∷ (codes "run", kind.Run) ∷ []
 
 abbrev pub kind_of : Line → Read Kind
-kind_of words = kind_after (following (codes "fill") words) (following (codes "run") words)
+kind_of [] = None
+kind_of (word ∷ words) = option_map (λ kind. (kind, words)) (named kinds word)
 
 -- the same of whatever a line can say
 abbrev pub SaysEntry : {D : Type 0} → Draws D → List ℕ → Line → Entry D → Line → Type 0

@@ -1,7 +1,6 @@
 -- What a line is about, by its first word, and how the words after it are read then.
-use Rattle.std.specs.Prelude.{ℕ, cond, List, [], ◌∷◌, Some, None, codes, Option}
-use Rattle.std.specs.Str.{bytes_eq}
-use Rattle.parts.specs.Openings.{Opens}
+use Rattle.std.specs.Prelude.{ℕ, List, [], ◌∷◌, Some, None, codes, Option}
+use Rattle.parts.specs.Openings.{open_of}
 use Rattle.parts.specs.Shapes.{strip_of, tile_of}
 use Rattle.text.specs.Readers.{Line, Read, count_of, pair_of, By, Making}
 use Rattle.calls.specs.declared.call.Call.{Call}
@@ -14,12 +13,7 @@ use Rattle.calls.specs.declared.head.Head.{Head}
 use Rattle.calls.specs.declared.head.Head.TheVariants as head
 use Rattle.calls.specs.declared.head.Verb.{Verb}
 use Rattle.calls.specs.declared.head.Verb.TheVariants as verb
-use Rattle.calls.specs.Calls.{Draws, room_of, tile_call_of, kind_of}
-
--- what stands beside a word in a table
-abbrev pub named : {A : Type 0} → List (List ℕ × A) → List ℕ → Option A
-named [] word = None
-named (row ∷ table) word = cond (bytes_eq word row.0) (Some row.1) (named table word)
+use Rattle.calls.specs.Calls.{Draws, room_of, tile_call_of, named, kind_of}
 
 abbrev pub heads : List (List ℕ × Head)
 heads =
@@ -50,7 +44,7 @@ nothing_of words = Some (tt, words)
 abbrev pub SaysCall : {D : Type 0} → Draws D → Verb → Line → Call D → Line → Type 0
 SaysCall draws verb.Reset before c after = Making (By pair_of) (λ size. call.Reset size.0 size.1) before c after
 SaysCall draws (verb.Draw kind) before c after = Making (draws (kind_word kind)) call.Draw before c after
-SaysCall draws verb.Open before c after = Making Opens (λ opening. call.Open opening.0 opening.1) before c after
+SaysCall draws verb.Open before c after = Making (By open_of) (λ opening. call.Open opening.0 opening.1) before c after
 SaysCall draws verb.Close before c after = Making (By nothing_of) (λ _. call.Close) before c after
 SaysCall draws verb.Walk before c after = Making (By room_of) call.Walk before c after
 SaysCall draws verb.Tile before c after = Making (By tile_call_of) (λ t. call.Tile t.0 t.1 t.2) before c after

@@ -1,6 +1,6 @@
 // The calls of a script.
 ghost use Rattle.std.specs.Prelude.{◌≡◌};
-ghost use Rattle.text.specs.Readers.{left, Reads, Told};
+ghost use Rattle.text.specs.Readers.{Reads, Told};
 ghost use Rattle.calls.specs.declared.head.Verb.TheVariants as verb;
 ghost use Rattle.calls.specs.Calls.{is_draw, room_of, surface_of};
 ghost use Rattle.calls.specs.Heads.{SaysCall};
@@ -57,22 +57,22 @@ impl<D> Call<D> {
 
 // `WIDTH HEIGHT`
 fn read_reset<D: DrawLine>(words: &mut Words<'_>) -> Result<Call<D>, Reason>
-    ensures { Told (SaysCall D.Written verb.Reset) (left words.old) result (left words.new) }
+    ensures { Told (SaysCall D.Written verb.Reset) words.old result words.new }
 {
-    let (width, height) = words.pair16()?;
+    let (width, height) = words.pair()?;
     Ok(Call::Reset { width, height })
 }
 
 // The words of a draw
 fn read_draw<D: DrawLine>(kind: Kind, words: &mut Words<'_>) -> Result<Call<D>, Reason>
-    ensures { Told (SaysCall D.Written (verb.Draw kind)) (left words.old) result (left words.new) }
+    ensures { Told (SaysCall D.Written (verb.Draw kind)) words.old result words.new }
 {
     Ok(Call::Draw(D::read(kind.word(), words)?))
 }
 
 // All parts of an opening
 fn read_open<D: DrawLine>(words: &mut Words<'_>) -> Result<Call<D>, Reason>
-    ensures { Told (SaysCall D.Written verb.Open) (left words.old) result (left words.new) }
+    ensures { Told (SaysCall D.Written verb.Open) words.old result words.new }
 {
     let (props, filter) = read_opening(words)?;
     Ok(Call::Open { props, filter })
@@ -80,14 +80,14 @@ fn read_open<D: DrawLine>(words: &mut Words<'_>) -> Result<Call<D>, Reason>
 
 // `[room N]`
 fn read_room(words: &mut Words<'_>) -> Result<Option<u32>, Reason>
-    ensures { Reads room_of (left words.old) result (left words.new) }
+    ensures { Reads room_of words.old result words.new }
 {
-    words.number32_after("room")
+    words.number_after("room")
 }
 
 // `[room N]`
 fn read_walk<D: DrawLine>(words: &mut Words<'_>) -> Result<Call<D>, Reason>
-    ensures { Told (SaysCall D.Written verb.Walk) (left words.old) result (left words.new) }
+    ensures { Told (SaysCall D.Written verb.Walk) words.old result words.new }
 {
     let room = read_room(words)?;
     Ok(Call::Walk { room })
@@ -95,21 +95,21 @@ fn read_walk<D: DrawLine>(words: &mut Words<'_>) -> Result<Call<D>, Reason>
 
 // `scene`, or the number of a layer
 fn read_surface(words: &mut Words<'_>) -> Result<Surface, Reason>
-    ensures { Reads surface_of (left words.old) result (left words.new) }
+    ensures { Reads surface_of words.old result words.new }
 {
     if words.take("scene") {
         return Ok(Surface::Scene);
     }
-    match words.number32() {
-        Ok(number) => Ok(Surface::Layer(number)),
-        Err(Reason::NumberTooLarge) => Err(Reason::NumberTooLarge),
-        Err(_) => Err(Reason::UnknownSurface),
-    }
+    let number = words.number().map_err(|reason| match reason {
+        Reason::NumberTooLarge => reason,
+        _ => Reason::UnknownSurface,
+    })?;
+    Ok(Surface::Layer(number))
 }
 
 // `scene COLUMN ROW [room N]`, or with the number of a layer
 fn read_tile_walk<D: DrawLine>(words: &mut Words<'_>) -> Result<Call<D>, Reason>
-    ensures { Told (SaysCall D.Written verb.Tile) (left words.old) result (left words.new) }
+    ensures { Told (SaysCall D.Written verb.Tile) words.old result words.new }
 {
     let surface = read_surface(words)?;
     let tile = read_tile(words)?;
@@ -123,7 +123,7 @@ fn read_tile_walk<D: DrawLine>(words: &mut Words<'_>) -> Result<Call<D>, Reason>
 
 // `COLUMN ROW`
 fn read_hit<D: DrawLine>(words: &mut Words<'_>) -> Result<Call<D>, Reason>
-    ensures { Told (SaysCall D.Written verb.Hit) (left words.old) result (left words.new) }
+    ensures { Told (SaysCall D.Written verb.Hit) words.old result words.new }
 {
     let tile = read_tile(words)?;
     Ok(Call::Hit { tile })
@@ -131,7 +131,7 @@ fn read_hit<D: DrawLine>(words: &mut Words<'_>) -> Result<Call<D>, Reason>
 
 // The call of a line, from the words after its verb.
 pub(crate) fn read_call<D: DrawLine>(verb: Verb, words: &mut Words<'_>) -> Result<Call<D>, Reason>
-    ensures { Told (SaysCall D.Written verb) (left words.old) result (left words.new) }
+    ensures { Told (SaysCall D.Written verb) words.old result words.new }
 {
     match verb {
         Verb::Reset => read_reset(words),

@@ -1,9 +1,10 @@
 // The kinds of draw, as a script writes them.
-ghost use Rattle.std.specs.Prelude.{◌≡◌, ℕ, List, Result};
+ghost use Rattle.std.specs.Prelude.{◌≡◌};
 ghost use Rattle.std.proofs.Common.{inl, inr};
-ghost use Rattle.refusal.specs.declared.Refusal.{Refusal};
-ghost use Rattle.text.specs.Readers.{left, Told};
-ghost use Rattle.calls.specs.Calls.{Begins, FillWords, RunWords};
+ghost use Rattle.std.specs.Option.{ok_or};
+ghost use Rattle.text.specs.declared.reason.Reason.TheVariants.{UnknownKind};
+ghost use Rattle.text.specs.Readers.{Told};
+ghost use Rattle.calls.specs.Calls.{Draws, Begins, FillWords, RunWords, named, kinds};
 ghost use Rattle.calls.specs.Heads.{kind_word};
 
 use draws::drawable::Drawable;
@@ -13,6 +14,7 @@ use geometry::rect::RectU16;
 use parts::mode::read_mode;
 use parts::shapes::read_rect;
 use refusal::Refusal;
+use std::str::FromStr;
 use text::reason::Reason;
 use text::words::Words;
 
@@ -35,25 +37,40 @@ impl Kind {
     }
 }
 
+// The kind whose lines begin with this word.
+impl FromStr for Kind {
+    type Err = Reason;
+
+    ghost from_str_gives = { λ word r. r ≡ ok_or (named kinds word) UnknownKind };
+
+    fn from_str(word: &str) -> Result<Kind, Reason> {
+        match word {
+            "fill" => Ok(Kind::Fill),
+            "run" => Ok(Kind::Run),
+            _ => Err(Reason::UnknownKind),
+        }
+    }
+}
+
 // A draw that a line of a script can write.
 pub trait DrawLine: Drawable + Clone + Copy {
     // What stands in a draw list where no draw is recorded yet.
     fn blank() -> Self;
 
     // The first word of a line and the words after it, the draw that they say, and the words that are left.
-    ghost Written: { List ℕ → List (List ℕ) → Result Self Refusal → List (List ℕ) → Type 0 };
+    ghost Written: { Draws Self };
 
     // The draw of a line that begins with `word`, or why there is no such draw.
     // A line that begins with the word of another kind is faulty.
     fn read(word: &str, words: &mut Words<'_>) -> Result<Result<Self, Refusal>, Reason>
-        ensures { Told (Written word.now) (left words.old) result (left words.new) };
+        ensures { Told (Written word.now) words.old result words.new };
 
     // A line that begins with any other word says no draw.
     ghost begins: { Begins Written };
 }
 
 impl DrawLine for Fill {
-    ghost Written = { λ word before draw after. FillWords word before draw after };
+    ghost Written = { FillWords };
 
     ghost begins = { λ word before draw after says. inl says.0 };
 
@@ -72,7 +89,7 @@ impl DrawLine for Fill {
 }
 
 impl DrawLine for Run {
-    ghost Written = { λ word before draw after. RunWords word before draw after };
+    ghost Written = { RunWords };
 
     ghost begins = { λ word before draw after says. inr says.0 };
 
@@ -84,8 +101,7 @@ impl DrawLine for Run {
         if word != "run" {
             return Err(Reason::FillAmongRuns);
         }
-        let start = words.number32()?;
-        let end = words.number32()?;
+        let (start, end) = words.pair()?;
         Ok(Ok(Run { start, end }))
     }
 }

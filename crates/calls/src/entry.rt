@@ -24,25 +24,19 @@ pub enum Entry<D> {
 
 // `fill` or `run`
 pub fn read_kind(words: &mut Words<'_>) -> Result<Kind, Reason>
-    ensures { Reads kind_of (left words.old) result (left words.new) }
+    ensures { Reads kind_of words.old result words.new }
 {
-    if words.take("fill") {
-        return Ok(Kind::Fill);
-    }
-    if words.take("run") {
-        return Ok(Kind::Run);
-    }
-    Err(Reason::UnknownKind)
+    words.next_word().ok_or(Reason::UnknownKind)?.parse()
 }
 
 // What a line says that begins with this head, and perhaps more words after it.
 fn read_parts<D: DrawLine>(head: Head, words: &mut Words<'_>) -> Result<Entry<D>, Reason>
-    ensures { Told (SaysHead D.Written head) (left words.old) result (left words.new) }
+    ensures { Told (SaysHead D.Written head) words.old result words.new }
 {
     match head {
         Head::Kind => Ok(Entry::Kind(read_kind(words)?)),
         Head::Strip => Ok(Entry::Strip(read_strip(words)?)),
-        Head::Places => Ok(Entry::Places(words.number32()?)),
+        Head::Places => Ok(Entry::Places(words.number()?)),
         Head::Call(verb) => Ok(Entry::Call(read_call(verb, words)?)),
     }
 }
@@ -51,9 +45,7 @@ fn read_parts<D: DrawLine>(head: Head, words: &mut Words<'_>) -> Result<Entry<D>
 fn read_words<D: DrawLine>(word: &str, mut words: Words<'_>) -> Result<Entry<D>, Reason>
     ensures { MatchResult result (λ entry. SaysEntry D.Written word.now (left words.entry) entry []) (λ _. (e : EntryOf D) → SaysEntry D.Written word.now (left words.entry) e [] → ⊥) }
 {
-    let Some(head) = Head::read(word) else {
-        return Err(Reason::UnknownWord);
-    };
+    let head: Head = word.parse()?;
     let entry = read_parts(head, &mut words)?;
     words.end()?;
     Ok(entry)
@@ -63,17 +55,12 @@ fn read_words<D: DrawLine>(word: &str, mut words: Words<'_>) -> Result<Entry<D>,
 pub fn words_of(bytes: &[u8]) -> Result<Option<(&str, Words<'_>)>, Reason>
     ensures { MatchResult result (λ line. IsUtf8 bytes.now × MatchOption line (PassedOver (words_of bytes.now)) (λ p. (words_of bytes.now ≡ p.0.now ∷ left p.1) × (slice_index p.0.now 0 ≢ 35))) (λ _. IsUtf8 bytes.now → ⊥) }
 {
-    let Ok(text) = std::str::from_utf8(bytes) else {
-        return Err(Reason::NotText);
-    };
+    let text = std::str::from_utf8(bytes).map_err(|_| Reason::NotText)?;
     let mut words = Words::new(text);
-    let Some(word) = words.next_word() else {
-        return Ok(None);
-    };
-    if word.starts_with('#') {
-        return Ok(None);
+    match words.next_word() {
+        Some(word) if !word.starts_with('#') => Ok(Some((word, words))),
+        _ => Ok(None),
     }
-    Ok(Some((word, words)))
 }
 
 // What a line says; nothing where it is passed over.

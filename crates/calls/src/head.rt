@@ -1,8 +1,12 @@
 // What a line is about, by its first word.
 ghost use Rattle.std.specs.Prelude.{◌≡◌};
+ghost use Rattle.std.specs.Option.{ok_or};
+ghost use Rattle.text.specs.declared.reason.Reason.TheVariants.{UnknownWord};
 ghost use Rattle.calls.specs.Heads.{head_of};
 
 use crate::draw_line::Kind;
+use std::str::FromStr;
+use text::reason::Reason;
 
 // No word is that of a tile walk or a hit yet.
 #[derive(Clone, Copy)]
@@ -25,23 +29,24 @@ pub enum Head {
     Call(Verb),
 }
 
-impl Head {
-    // None where the word is not known.
-    pub fn read(word: &str) -> Option<Head>
-        ensures { result ≡ head_of word.now }
-    {
+impl FromStr for Head {
+    type Err = Reason;
+
+    ghost from_str_gives = { λ word r. r ≡ ok_or (head_of word) UnknownWord };
+
+    fn from_str(word: &str) -> Result<Head, Reason> {
         match word {
-            "kind" => Some(Head::Kind),
-            "strip" => Some(Head::Strip),
-            "places" => Some(Head::Places),
-            "reset" => Some(Head::Call(Verb::Reset)),
-            "fill" => Some(Head::Call(Verb::Draw(Kind::Fill))),
-            "run" => Some(Head::Call(Verb::Draw(Kind::Run))),
-            "open" => Some(Head::Call(Verb::Open)),
-            "close" => Some(Head::Call(Verb::Close)),
-            "walk" => Some(Head::Call(Verb::Walk)),
-            "report" => Some(Head::Call(Verb::Report)),
-            _ => None,
+            "kind" => Ok(Head::Kind),
+            "strip" => Ok(Head::Strip),
+            "places" => Ok(Head::Places),
+            "reset" => Ok(Head::Call(Verb::Reset)),
+            "fill" => Ok(Head::Call(Verb::Draw(Kind::Fill))),
+            "run" => Ok(Head::Call(Verb::Draw(Kind::Run))),
+            "open" => Ok(Head::Call(Verb::Open)),
+            "close" => Ok(Head::Call(Verb::Close)),
+            "walk" => Ok(Head::Call(Verb::Walk)),
+            "report" => Ok(Head::Call(Verb::Report)),
+            _ => Err(Reason::UnknownWord),
         }
     }
 }

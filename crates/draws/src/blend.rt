@@ -15,14 +15,14 @@ impl BlendMode {
     pub fn is_default(self) -> bool
         ensures { result ≡ default_mode self }
     {
-        self.mix == 0 && self.compose == 3
+        self == BlendMode::DEFAULT
     }
 }
 
-// The constant's value: a constant has no contract of its own.
-fn default_mode() -> BlendMode
-    ensures value { result ≡ record { mix = 0; compose = 3 } }
-    ensures default { default_mode result ≡ true }
-{
-    BlendMode::DEFAULT
+impl Default for BlendMode {
+    ghost is_default = { λ m. (m ≡ record { mix = 0; compose = 3 }) × (default_mode m ≡ true) };
+
+    fn default() -> BlendMode {
+        BlendMode::DEFAULT
+    }
 }

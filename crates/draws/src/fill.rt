@@ -22,6 +22,7 @@ pub struct Fill {
 
 impl Fill {
     // Refused where the rectangle is not empty and a high edge is above 65,532, so that no whole tiles hold it.
+    // Clauses tell a refusal by its number, as it is known outside.
     pub fn new(rect: RectU16, blend_mode: Option<BlendMode>) -> Result<Fill, Refusal>
         ensures { Answers ((fits rect, 1) ∷ []) result (λ f. (f.rect ≡ rect) × (f.blend_mode ≡ blend_mode)) (Unit {0}) }
     {

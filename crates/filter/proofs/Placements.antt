@@ -1,11 +1,11 @@
 -- What a placement made of a pixmap box means.
-use Rattle.std.proofs.Common.{◌≡◌, ℕ, ◌-◌, ◌<◌, false, leb, Some, None, ap, ◌∙◌, arith}
+use Rattle.std.proofs.Common.{◌≡◌, ℕ, ◌-◌, ◌<◌, false, leb, ap, ◌∙◌, arith}
 use Rattle.std.proofs.lemmas.Bool.{or_parts, or_from, leb-false, lt-leb}
 use Rattle.geometry.specs.declared.rect.RectU16.{RectU16}
 use Rattle.geometry.specs.Rect.{Least, empty, relative}
-use Rattle.geometry.specs.Snap.{Around, WholeTile, snapped}
+use Rattle.geometry.specs.Snap.{Around}
 use Rattle.filter.specs.declared.data.FilterData.{FilterData}
-use Rattle.filter.specs.Placement.{shift_x, shift_y, padded, placed, placed_at, Lies, OnTiles, ShiftOnTiles}
+use Rattle.filter.specs.Placement.{shift_x, shift_y, padded, placed_at, Lies}
 
 -- padding leaves a rectangle that is not empty so
 pub padded-full : (contents : RectU16) (f : FilterData) → contents.x1 < 65536 → contents.y1 < 65536 → empty contents ≡ false → empty (padded contents f) ≡ false
@@ -16,21 +16,12 @@ padded-full r f hx hy e =
     let q = padded r f in
     or_from (leb q.x1 q.x0) (leb q.y1 q.y0) (lt-leb q.x1 q.x0 (omega arith)) (lt-leb q.y1 q.y0 (omega arith))
 
-pub placed-some : (contents : RectU16) (f : FilterData) (r : RectU16) → empty contents ≡ false → Some r ≡ snapped (padded contents f) → Some (placed_at f r) ≡ placed contents f
-placed-some contents f r e s = rw (e, ← s)
-
-pub placed-none : (contents : RectU16) (f : FilterData) → empty contents ≡ false → None ≡ snapped (padded contents f) → None ≡ placed contents f
-placed-none contents f e s = rw (e, ← s)
-
 pub lies_at : (contents : RectU16) (f : FilterData) (r : RectU16) → Least (Around (padded contents f)) r → Lies contents f (placed_at f r)
 lies_at contents f r l =
     record {
       pixmap = l;
       points = λ x y. (λ h. (omega arith, omega arith, omega arith, omega arith), λ h. (omega arith, omega arith, omega arith, omega arith));
     }
-
-pub on-tiles-at : (f : FilterData) (r : RectU16) → ShiftOnTiles f → WholeTile r → OnTiles (placed_at f r)
-on-tiles-at f r s w = (w, (omega arith, omega arith, omega arith, omega arith), omega arith, omega arith)
 
 -- a placement by its parts
 pub made_at : (f : FilterData) (r d : RectU16) (x y : ℕ) (s : ℕ × ℕ) → s ≡ (shift_x f, shift_y f) → d ≡ relative r s.0 s.1 → x ≡ s.0 - r.x0 → y ≡ s.1 - r.y0

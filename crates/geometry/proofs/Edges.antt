@@ -1,9 +1,13 @@
 -- What a rectangle with a point says of its edges, and of the edges of a rectangle around it.
-use Rattle.std.proofs.Common.{◌≡◌, ℕ, ◌-◌, ◌%◌, ◌<◌, ◌≤◌, true, false, ltb, leb, Some, None, Decides, ⊎_elim, arith}
-use Rattle.std.proofs.lemmas.Bool.{or_parts, or_cases, leb-true, leb-false, cases_Bool, ltb-true}
+use Rattle.std.proofs.Common.{◌≡◌, ℕ, ◌+◌, ◌-◌, ◌%◌, ◌<◌, ◌≤◌, false, leb, arith}
+use Rattle.std.proofs.lemmas.Bool.{or_parts, leb-false}
 use Rattle.geometry.specs.declared.rect.RectU16.{RectU16}
-use Rattle.geometry.specs.Rect.{rect, Holds, Within, Least, empty, joined}
-use Rattle.geometry.specs.Snap.{WholeTile, Fits16, Around, lowered, raised, beyond, snapped}
+use Rattle.geometry.specs.Rect.{rect, Within, Least, empty, joined}
+use Rattle.geometry.specs.Snap.{WholeTile, Around, lowered, raised}
+
+-- the first multiple of 4 from n on
+pub next-raised : (n m : ℕ) → n ≤ m → m < n + 4 → m % 4 ≡ 0 → m ≡ raised n
+next-raised n m low high whole = omega arith
 
 -- a rectangle that is not empty, by its edges
 abbrev pub Ahead : RectU16 → Type 0
@@ -63,37 +67,3 @@ outward-least r p = (
         raised-least other.y1 r.y1 e.3 b.3,
       ),
 )
-
--- past 65,532 no multiple of 4 has 16 bits
-pub none-around : (r other : RectU16) → Ahead r → 65532 < r.x1 → Fits16 other → Around r other → ⊥
-none-around r other p h f w =
-    let b = between r other p w.1 in
-    let e = w.0.2 in
-    omega arith
-
-pub none-around-below : (r other : RectU16) → Ahead r → 65532 < r.y1 → Fits16 other → Around r other → ⊥
-none-around-below r other p h f w =
-    let b = between r other p w.1 in
-    let e = w.0.3 in
-    omega arith
-
--- an empty rectangle holds no point, and any other one holds its first
-pub empty-decides : (r : RectU16) → Decides (empty r) ((x y : ℕ) → Holds r x y → ⊥)
-empty-decides r = (
-  λ e x y h. ⊎_elim (λ p. omega (arith, leb-true r.x1 r.x0 p)) (λ p. omega (arith, leb-true r.y1 r.y0 p)) (or_cases (leb r.x1 r.x0) (leb r.y1 r.y0) e),
-  λ none.
-      ⊎_elim (λ e. e) (λ e. let p = ahead r e in absurd (none r.x0 r.y0 (omega arith, omega arith, omega arith, omega arith))) (cases_Bool (empty r)),
-)
-
--- snapping a rectangle that is not empty
-pub snapped-none : (r : RectU16) → empty r ≡ false → beyond r ≡ true → None ≡ snapped r
-snapped-none r e b = rw (e, b)
-
-pub snapped-some : (r : RectU16) → empty r ≡ false → beyond r ≡ false → Some (outward r) ≡ snapped r
-snapped-some r e b = rw (e, b)
-
-pub none-beyond : (r : RectU16) → empty r ≡ false → beyond r ≡ true → (other : RectU16) → Fits16 other → Around r other → ⊥
-none-beyond r e b other f w =
-    let p = ahead r e in
-    ⊎_elim (λ t. none-around r other p (ltb-true 65532 r.x1 t) f w) (λ t. none-around-below r other p (ltb-true 65532 r.y1 t) f w)
-    (or_cases (ltb 65532 r.x1) (ltb 65532 r.y1) b)

@@ -1,7 +1,7 @@
 // Padding around the four sides of a rectangle.
 ghost use Rattle.std.specs.Prelude.{◌≡◌};
 
-#[derive(Clone, Copy, Debug, PartialEq, Eq)]
+#[derive(Clone, Copy, Debug, Default, PartialEq, Eq)]
 pub struct PaddingU16 {
     pub left: u16,
     pub top: u16,

@@ -9,7 +9,7 @@ use crate::padding::PaddingU16;
 use crate::size::SizeU16;
 use crate::tile::Tile;
 
-#[derive(Clone, Copy, Debug, PartialEq, Eq)]
+#[derive(Clone, Copy, Debug, Default, PartialEq, Eq)]
 pub struct RectU16 {
     pub x0: u16,
     pub y0: u16,
@@ -21,14 +21,7 @@ pub struct RectU16 {
 fn shift_edge(edge: u16, by: i32) -> u16
     ensures { result ≡ moved edge by }
 {
-    let to = edge as i64 + by as i64;
-    if to < 0 {
-        0
-    } else if to > 65_535 {
-        65_535
-    } else {
-        to as u16
-    }
+    (edge as i64 + by as i64).clamp(0, 65_535) as u16
 }
 
 impl RectU16 {
@@ -159,8 +152,8 @@ impl RectU16 {
         if self.x1 > Tile::LAST_EDGE || self.y1 > Tile::LAST_EDGE {
             return None;
         }
-        let x1 = (self.x1 + 3) / Tile::WIDTH * Tile::WIDTH;
-        let y1 = (self.y1 + 3) / Tile::HEIGHT * Tile::HEIGHT;
+        let x1 = self.x1.next_multiple_of(Tile::WIDTH);
+        let y1 = self.y1.next_multiple_of(Tile::HEIGHT);
         Some(RectU16::new(x0, y0, x1, y1))
     }
 
@@ -168,10 +161,10 @@ impl RectU16 {
     pub fn is_tile_aligned(self) -> bool
         ensures { Decides result (WholeTile self) }
     {
-        self.x0 % Tile::WIDTH == 0
-            && self.y0 % Tile::HEIGHT == 0
-            && self.x1 % Tile::WIDTH == 0
-            && self.y1 % Tile::HEIGHT == 0
+        self.x0.is_multiple_of(Tile::WIDTH)
+            && self.y0.is_multiple_of(Tile::HEIGHT)
+            && self.x1.is_multiple_of(Tile::WIDTH)
+            && self.y1.is_multiple_of(Tile::HEIGHT)
     }
 
     // Whether the rectangle is not empty and holds the tile's first pixel.

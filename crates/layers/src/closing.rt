@@ -10,6 +10,7 @@ use geometry::rect::RectU16;
 use refusal::Refusal;
 
 // The contents of a layer with one more box; an absent or an empty one adds nothing.
+// It is not the union by which a run takes in its strips' boxes, where an empty box counts.
 pub fn put_into(contents: Option<RectU16>, bbox: RectU16) -> Option<RectU16>
     ensures { result ≡ put (Some bbox) contents }
 {
@@ -25,28 +26,18 @@ pub fn put_into(contents: Option<RectU16>, bbox: RectU16) -> Option<RectU16>
     }
 }
 
-// A contents box that is absent counts as zero.
-fn or_zero(contents: Option<RectU16>) -> RectU16
-    ensures { result ≡ or_zero contents }
-{
-    match contents {
-        Some(bbox) => bbox,
-        None => RectU16::ZERO,
-    }
-}
-
 // A regular layer's box: its contents, or zero, cut by its clip.
 fn regular_bbox(layer: &OpenLayer) -> RectU16
     ensures { result ≡ clipped (or_zero layer.now.contents) layer.now.clip }
 {
-    let bbox = or_zero(layer.contents);
+    let bbox = layer.contents.unwrap_or(RectU16::ZERO);
     match layer.clip {
         Some(clip) => bbox.intersect(clip),
         None => bbox,
     }
 }
 
-// What the closing of a layer gives.
+// What the closing of a layer gives. Clauses tell a refusal by its number, as it is known outside.
 pub fn close(layer: &OpenLayer) -> Result<ClosedLayer, Refusal>
     ensures { Answers ((pads_within layer.now.filter layer.now.contents, 9) ∷ []) result (λ k. closing layer.now ≡ Some k) (Unit {0}) }
 {
@@ -58,15 +49,15 @@ pub fn close(layer: &OpenLayer) -> Result<ClosedLayer, Refusal>
             placement: None,
         });
     };
-    let contents = or_zero(layer.contents);
-    match FilterLayerPlacement::new(contents, &filter_data) {
-        Some(placement) => Ok(ClosedLayer {
-            bbox: placement.pixmap_bbox(),
-            in_parent: placement.dest_bbox(),
-            placement: Some(placement),
-        }),
-        None => Err(Refusal::FilterPastEdge),
-    }
+    let contents = layer.contents.unwrap_or(RectU16::ZERO);
+    let placement = FilterLayerPlacement::new(contents, &filter_data).ok_or(
+        Refusal::FilterPastEdge,
+    )?;
+    Ok(ClosedLayer {
+        bbox: placement.pixmap_bbox(),
+        in_parent: placement.dest_bbox(),
+        placement: Some(placement),
+    })
 }
 
 // The kind of a layer that was closed: a filter layer has a placement.

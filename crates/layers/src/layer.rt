@@ -4,7 +4,7 @@ use filter::data::FilterData;
 use filter::placement::FilterLayerPlacement;
 use geometry::rect::RectU16;
 
-#[derive(Clone, Copy, Debug)]
+#[derive(Clone, Copy, Debug, Default)]
 pub struct RecordedLayer {
     pub props: LayerProps,
     pub kind: RecordedLayerKind,
@@ -14,8 +14,9 @@ pub struct RecordedLayer {
     pub bbox: RectU16,
 }
 
-#[derive(Clone, Copy, Debug)]
+#[derive(Clone, Copy, Debug, Default)]
 pub enum RecordedLayerKind {
+    #[default]
     Regular,
     Filter {
         filter_data: FilterData,
@@ -32,7 +33,7 @@ pub enum PoppedLayer {
 }
 
 // A layer that is open, as its closing needs it.
-#[derive(Clone, Copy, Debug)]
+#[derive(Clone, Copy, Debug, Default)]
 pub struct OpenLayer {
     pub id: u32,
     pub clip: Option<RectU16>,

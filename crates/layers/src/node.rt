@@ -2,7 +2,7 @@
 ghost use Rattle.std.specs.Prelude.{◌≡◌, ◌-◌, ◌≤◌, length, take, drop, MatchOption};
 
 // The draws `start..end`, and then perhaps a layer.
-#[derive(Clone, Copy, Debug)]
+#[derive(Clone, Copy, Debug, Default)]
 pub struct Node {
     pub start: u32,
     pub end: u32,
@@ -16,12 +16,6 @@ impl Node {
     pub fn draws_in<'a, D>(&self, draws: &'a [D]) -> Option<&'a [D]>
         ensures { MatchOption result (self.now.start ≤ self.now.end → self.now.end ≤ length draws.now → ⊥) (λ part. (self.now.start ≤ self.now.end) × (self.now.end ≤ length draws.now) × (part.now ≡ take (self.now.end - self.now.start) (drop self.now.start draws.now))) }
     {
-        let start = self.start as usize;
-        let end = self.end as usize;
-        if start <= end && end <= draws.len() {
-            Some(&draws[start..end])
-        } else {
-            None
-        }
+        draws.get(self.start as usize..self.end as usize)
     }
 }

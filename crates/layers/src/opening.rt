@@ -12,32 +12,19 @@ use geometry::rect::RectU16;
 use geometry::tile::Tile;
 use refusal::Refusal;
 
-// Whether both numbers are multiples of 4.
-fn on_tiles(x: u16, y: u16) -> bool
-    ensures { result ≡ (on_tile x && on_tile y) }
-{
-    x % Tile::WIDTH == 0 && y % Tile::HEIGHT == 0
-}
-
 fn clip_on_tiles(clip: Option<LayerClip>) -> bool
     ensures { result ≡ clip_on_tiles clip }
 {
-    match clip {
-        Some(clip) => on_tiles(clip.bbox.x0, clip.bbox.y0) && on_tiles(clip.bbox.x1, clip.bbox.y1),
-        None => true,
-    }
+    clip.is_none_or(|clip| clip.bbox.is_tile_aligned())
 }
 
 fn shift_on_tiles(filter: Option<FilterData>) -> bool
     ensures { result ≡ shift_on_tiles filter }
 {
-    match filter {
-        Some(filter_data) => {
-            let (x, y) = filter_data.source_shift();
-            on_tiles(x, y)
-        }
-        None => true,
-    }
+    filter.is_none_or(|filter_data| {
+        let (x, y) = filter_data.source_shift();
+        x.is_multiple_of(Tile::WIDTH) && y.is_multiple_of(Tile::HEIGHT)
+    })
 }
 
 // What is not a number is neither at least 0 nor at most 1.
@@ -66,10 +53,7 @@ pub fn check_opening(props: &LayerProps, filter: Option<FilterData>) -> Result<(
 pub fn clip_bbox(clip: Option<LayerClip>) -> Option<RectU16>
     ensures { result ≡ clip_box clip }
 {
-    match clip {
-        Some(clip) => Some(clip.bbox),
-        None => None,
-    }
+    clip.map(|clip| clip.bbox)
 }
 
 // A layer as its opening records it.

@@ -1,4 +1,7 @@
 // The properties of a layer.
+ghost use Rattle.std.specs.Prelude.{◌≡◌, false, pos, None};
+ghost use Rattle.std.specs.Float.{fin};
+
 use draws::blend::BlendMode;
 use geometry::rect::RectU16;
 
@@ -10,6 +13,20 @@ pub struct LayerProps {
     // The number of a mask in a list of the caller's.
     pub mask: Option<u32>,
     pub clip_path: Option<LayerClip>,
+}
+
+// Mixed as usual, opaque, with no mask and no clip.
+impl Default for LayerProps {
+    ghost is_default = { λ p. (p.blend_mode ≡ record { mix = 0; compose = 3 }) × (p.opacity ≡ fin false 1 (pos 0)) × (p.mask ≡ None) × (p.clip_path ≡ None) };
+
+    fn default() -> LayerProps {
+        LayerProps {
+            blend_mode: BlendMode::DEFAULT,
+            opacity: 1.0,
+            mask: None,
+            clip_path: None,
+        }
+    }
 }
 
 // A clip path, as strips that the caller keeps, and the box around them.

@@ -7,9 +7,8 @@ use Rattle.geometry.specs.Rect.{empty}
 use Rattle.geometry.specs.Snap.{beyond}
 use Rattle.filter.specs.declared.data.FilterData.{FilterData}
 use Rattle.filter.specs.Placement.{padded, placed, placed_at, Lies}
-use Rattle.filter.proofs.Placements as Placements
 use Rattle.filter.proofs.Placements.{padded-full, lies_at}
-use Rattle.geometry.proofs.Edges.{ahead, outward, outward-least, snapped-some}
+use Rattle.geometry.proofs.Edges.{ahead, outward, outward-least}
 use Rattle.layers.specs.declared.layer.ClosedLayer.{ClosedLayer}
 use Rattle.layers.specs.declared.layer.OpenLayer.{OpenLayer}
 use Rattle.record.specs.Account.{AccountView, close_questions, closing_of, at_root, innermost_pads}
@@ -28,7 +27,7 @@ pub record Closes (opened : List OpenLayer) : Type 0 where
   pub pads : pads_within layer.filter layer.contents ≡ true
 
 some_of : {X : Type 0} (o : Option X) → is_some o ≡ true → (x : X) × (o ≡ Some x)
-some_of None e = let z : ◌≡◌ {A = ℕ} 0 1 = cc in absurd (omega arith)
+some_of None e = absurd (cc)
 some_of (Some x) e = (x, refl)
 
 placed-full : (f : FilterData) (c : RectU16) → empty c ≡ false → (leb (c.x1 + f.filter_padding.right) 65532 && leb (c.y1 + f.filter_padding.bottom) 65532) ≡ true
@@ -41,7 +40,7 @@ placed-full f c full e =
     let x : min (c.x1 + f.filter_padding.right) 65535 ≤ 65532 = omega arith in
     let y : min (c.y1 + f.filter_padding.bottom) 65535 ≤ 65532 = omega arith in
     let in-range : beyond (padded c f) ≡ false = or_from (ltb 65532 (padded c f).x1) (ltb 65532 (padded c f).y1) (le-ltb 65532 (padded c f).x1 x) (le-ltb 65532 (padded c f).y1 y) in (
-      sym (Placements.placed-some c f (outward (padded c f)) full (snapped-some (padded c f) wide in-range)),
+      rw (full, wide, in-range),
       lies_at c f (outward (padded c f)) (outward-least (padded c f) (ahead (padded c f) wide)),
     )
 
@@ -58,11 +57,11 @@ pub closes : (a : AccountView) → first_no (close_questions a) ≡ None → Clo
 closes a e = go a.opened e
   where
     go : (opened : List OpenLayer) → cond {A = Option ℕ} (not (at_root opened)) (cond (innermost_pads opened) None (Some 9)) (Some 8) ≡ None → Closes opened
-    go [] n = let z : ◌≡◌ {A = ℕ} 0 1 = cc in absurd (omega arith)
+    go [] n = absurd (cc)
     go (o ∷ outer) n =
         ⊎_elim
         (λ (t : pads_within o.filter o.contents ≡ true). let k = closing-some o.filter o.clip o.contents t in record { layer = o; outer = outer; result = k.0; is = refl; gives = k.1; pads = t })
-        (λ (t : pads_within o.filter o.contents ≡ false). let m : cond {A = Option ℕ} (pads_within o.filter o.contents) None (Some 9) ≡ Some 9 = rw t refl in let z : ◌≡◌ {A = ℕ} 0 1 = cc in absurd (omega arith))
+        (λ (t : pads_within o.filter o.contents ≡ false). let m : cond {A = Option ℕ} (pads_within o.filter o.contents) None (Some 9) ≡ Some 9 = rw t refl in absurd (cc))
         (cases_Bool (pads_within o.filter o.contents))
 
 -- the destination of a filter layer that closes

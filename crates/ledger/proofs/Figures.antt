@@ -1,6 +1,8 @@
 -- Flags, depth, filter order and largest sizes of a ledger, one entry on.
-use Rattle.std.proofs.Common.{◌≡◌, ℕ, zero, suc, max, Bool, true, false, not, ◌&&◌, ◌||◌, eqb, List, [], ◌∷◌, ◌++◌, length, Some, None, Option, sym, refl, ap, ◌∙◌, ⊎_elim, arith}
-use Rattle.std.proofs.lemmas.Bool.{cases_Bool, eq-eqb, ne_eqb, eqb-true}
+use Rattle.std.proofs.Common.{◌≡◌, ℕ, zero, suc, max, not, ◌&&◌, ◌||◌, eqb, List, [], ◌∷◌, ◌++◌, length, Some, None, Option, sym, refl, ap, ◌∙◌, arith}
+use Rattle.std.proofs.lemmas.Bool.{ne_eqb}
+use Rattle.std.proofs.Math.Bool.{or_assoc, or-false}
+use Rattle.std.proofs.Math.Dec.{eqb-suc-suc}
 use Rattle.geometry.specs.declared.size.SizeU16.{SizeU16}
 use Rattle.draws.specs.declared.blend.BlendMode.{BlendMode}
 use Rattle.filter.specs.declared.data.FilterData.{FilterData}
@@ -17,18 +19,6 @@ use Rattle.tiles.specs.Tile.{filter_kind, filter_at}
 use Rattle.ledger.specs.Tiles.{regular, opens_filter, filter_in}
 use Rattle.ledger.specs.Recorded.{none, numbered, opening_mode, depth_at, layer_blends, deepest_from, filter_numbers, largest_from, largest_filter_from, mode_in, root_blends}
 
-or_assoc : (a b c : Bool) → (a || (b || c)) ≡ ((a || b) || c)
-or_assoc true b c = refl
-or_assoc false b c = refl
-
-pub or-false : (b : Bool) → (b || false) ≡ b
-or-false true = refl
-or-false false = refl
-
-pub and-false : (b : Bool) → (b && false) ≡ false
-and-false true = refl
-and-false false = refl
-
 numbered-push : (f : Option FilterData) (n : ℕ) (xs ys : List ℕ) → numbered f n (xs ++ ys) ≡ numbered f n xs ++ ys
 numbered-push None n xs ys = refl
 numbered-push (Some f) n xs ys = refl
@@ -36,14 +26,14 @@ numbered-push (Some f) n xs ys = refl
 module _ {D : Type 0} where
   pub blends-push : (es : List (Entry D)) (e : Entry D) → layer_blends (es ++ (e ∷ [])) ≡ (layer_blends es || blending (opening_mode e))
   blends-push [] e = or-false (blending (opening_mode e))
-  blends-push (x ∷ es) e = ap (λ b. blending (opening_mode x) || b) (blends-push es e) ∙ or_assoc (blending (opening_mode x)) (layer_blends es) (blending (opening_mode e))
+  blends-push (x ∷ es) e = ap (λ b. blending (opening_mode x) || b) (blends-push es e) ∙ sym (or_assoc (blending (opening_mode x)) (layer_blends es) (blending (opening_mode e)))
 
   pub root-push : (mode_of : D → Option BlendMode) (s : List ℕ) (es : List (Entry D)) (e : Entry D)
       → root_blends mode_of s (es ++ (e ∷ [])) ≡ (root_blends mode_of s es || (none (open_from s es) && blending (mode_in mode_of e)))
   root-push mode_of s [] e = or-false (none s && blending (mode_in mode_of e))
   root-push mode_of s (x ∷ es) e =
       ap (λ b. (none s && blending (mode_in mode_of x)) || b) (root-push mode_of (open_step s x) es e)
-      ∙ or_assoc (none s && blending (mode_in mode_of x)) (root_blends mode_of (open_step s x) es) (none (open_from (open_step s x) es) && blending (mode_in mode_of e))
+      ∙ sym (or_assoc (none s && blending (mode_in mode_of x)) (root_blends mode_of (open_step s x) es) (none (open_from (open_step s x) es) && blending (mode_in mode_of e)))
 
   pub deepest-push : (s : List ℕ) (es : List (Entry D)) (e : Entry D) → deepest_from s (es ++ (e ∷ [])) ≡ max (deepest_from s es) (depth_at (open_from s es) e)
   deepest-push s [] e = omega arith
@@ -59,19 +49,13 @@ module _ {D : Type 0} where
 module _ {D : Type 0} where
   pub filter_in-push : (l : ℕ) (es : List (Entry D)) (e : Entry D) → filter_in l (es ++ (e ∷ [])) ≡ (filter_in l es || opens_filter l e)
   filter_in-push l [] e = or-false (opens_filter l e)
-  filter_in-push l (x ∷ es) e = ap (λ b. opens_filter l x || b) (filter_in-push l es e) ∙ or_assoc (opens_filter l x) (filter_in l es) (opens_filter l e)
+  filter_in-push l (x ∷ es) e = ap (λ b. opens_filter l x || b) (filter_in-push l es e) ∙ sym (or_assoc (opens_filter l x) (filter_in l es) (opens_filter l e))
 
 pub filter-append : (xs : List RecordedLayer) (x : RecordedLayer) (l : ℕ) → filter_at (xs ++ (x ∷ [])) l ≡ (filter_at xs l || (eqb l (length xs) && filter_kind x.kind))
 filter-append [] x zero = refl
 filter-append [] x (suc l) = rw (ne_eqb (suc l) 0 (λ e. omega arith))
 filter-append (y ∷ xs) x zero = rw (ne_eqb 0 (length (y ∷ xs)) (λ e. omega arith)) (sym (or-false (filter_kind y.kind)))
-filter-append (y ∷ xs) x (suc l) = filter-append xs x l ∙ ap (λ b. filter_at xs l || (b && filter_kind x.kind)) (sym (eqb-suc l (length xs)))
-  where
-    eqb-suc : (a b : ℕ) → eqb (suc a) (suc b) ≡ eqb a b
-    eqb-suc a b =
-        ⊎_elim (λ (e : eqb a b ≡ true). rw e (eq-eqb (suc a) (suc b) (ap suc (eqb-true a b e))))
-        (λ (e : eqb a b ≡ false). rw e (ne_eqb (suc a) (suc b) (λ i. let h : a ≡ b = omega arith in let t = eq-eqb a b h in let z : ◌≡◌ {A = ℕ} 0 1 = cc in absurd (omega arith))))
-        (cases_Bool (eqb a b))
+filter-append (y ∷ xs) x (suc l) = filter-append xs x l ∙ ap (λ b. filter_at xs l || (b && filter_kind x.kind)) (sym (eqb-suc-suc l (length xs)))
 
 pub filter-opened : (f : Option FilterData) → filter_kind (open_kind f) ≡ not (regular f)
 filter-opened None = refl

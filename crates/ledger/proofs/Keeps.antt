@@ -1,8 +1,10 @@
 -- A recording and its draw list keep to the ledger, call by call.
-use Rattle.std.proofs.Common.{◌≡◌, ℕ, zero, suc, ◌+◌, ◌<◌, max, true, false, cond, ◌&&◌, ◌||◌, eqb, ltb, List, [], ◌∷◌, ◌++◌, length, get_or, take, drop, set, Some, None, Option, sym, refl, ap, ◌∙◌, subst, ap₂, ⊎_elim, arith}
+use Rattle.std.proofs.Common.{◌≡◌, ℕ, zero, suc, ◌+◌, ◌<◌, max, true, false, cond, ◌&&◌, ◌||◌, eqb, ltb, List, [], ◌∷◌, ◌++◌, length, get_or, take, drop, set, is_ok, Some, None, Ok, Err, Option, Result, sym, refl, ap, ◌∙◌, subst, ap₂, ⊎_elim, arith}
 use Rattle.std.proofs.lemmas.List.{append-nil, map_push, take_more, take_more_set, length-take-le, drop-drop, drop-set-lt}
-use Rattle.std.proofs.lemmas.Bool.{cond_both, cond-true, cond-false, cases_Bool, and_parts, ltb-true}
+use Rattle.std.proofs.Math.Bool.{or-false, and-false}
+use Rattle.std.proofs.lemmas.Bool.{cond_both, cases_Bool, and_parts, ltb-true}
 use Rattle.refusal.specs.Refusals.{first_no}
+use Rattle.refusal.specs.declared.Refusal.{Refusal}
 use Rattle.geometry.specs.declared.rect.RectU16.{RectU16}
 use Rattle.geometry.specs.declared.size.SizeU16.{SizeU16}
 use Rattle.draws.specs.declared.blend.BlendMode.{BlendMode}
@@ -18,9 +20,8 @@ use Rattle.layers.specs.Records.{recorded_open}
 use Rattle.record.specs.Tree.{TreeView, with_filter, tree_after_closing}
 use Rattle.record.proofs.Sounds.{threads-draw, threads-open, threads-close, ids-take_in}
 use Rattle.walk.specs.declared.listed.Listed.TheVariants as listed
-use Rattle.ledger.specs.Ledger.{Entry, Draw, Enter, Leave, Ledger, draws_in, layers_in, opened, without, closed, noted, accepted, after, empty, ledger, ledger_from, number, numbers}
+use Rattle.ledger.specs.Ledger.{Entry, Draw, Enter, Leave, Ledger, draws_in, layers_in, opened, without, closed, noted, after, empty, ledger, ledger_from, number, numbers}
 use Rattle.ledger.specs.declared.call.Answer.{Answer}
-use Rattle.ledger.specs.declared.call.Answer.TheVariants as answer
 use Rattle.ledger.specs.declared.call.Call.{Call}
 use Rattle.ledger.specs.declared.call.Call.TheVariants as call
 use Rattle.ledger.specs.Laws.{Each, Stands, Led, LedAlways}
@@ -38,10 +39,10 @@ use Rattle.ledger.proofs.Sheets.{size, Ordered, length-records}
 use Rattle.ledger.proofs.Surfaces.{locate}
 use Rattle.ledger.proofs.Tiles.{scene-kept}
 use Rattle.ledger.specs.Made.{Made, after_call, written, draw_list}
-use Rattle.ledger.specs.Runs.{after_entry, recorded_from, recorded, questions, AnsweredBy, Answered, AllAnswered}
+use Rattle.ledger.specs.Runs.{after_entry, recorded_from, recorded, questions, Answered, AllAnswered}
 use Rattle.ledger.specs.Draft.{draft_of, sheet_of}
 use Rattle.ledger.specs.Recorded.{none, numbered, opening_mode, depth_at, layer_blends, deepest_from, filter_numbers, mode_in, root_blends, records_of, recording_for}
-use Rattle.ledger.proofs.Figures.{filter_in-push, filter-append, filter-opened, filter-changed, or-false, and-false, blends-push, root-push, deepest-push, filters-push}
+use Rattle.ledger.proofs.Figures.{filter_in-push, filter-append, filter-opened, filter-changed, blends-push, root-push, deepest-push, filters-push}
 use Rattle.ledger.proofs.Closes.{Closes, closes}
 use Rattle.ledger.proofs.Ledgers.{draws-push, layers-push, open-push, each-push, each-weaker, StandsBefore, stands_on, stands-new, stands_plain, ledger-push}
 use Rattle.ledger.proofs.Drafts.{draft-sheet}
@@ -253,7 +254,7 @@ module _ {D : Type 0} (box_of : D → Option RectU16) (mode_of : D → Option Bl
   place : (n m : ℕ) → cond {A = Option ℕ} (ltb n 1048576 && ltb n m) None (Some 3) ≡ None → n < m
   place n m e =
       ⊎_elim (λ (t : (ltb n 1048576 && ltb n m) ≡ true). ltb-true n m (and_parts (ltb n 1048576) (ltb n m) t).1)
-      (λ (t : (ltb n 1048576 && ltb n m) ≡ false). let x : cond {A = Option ℕ} (ltb n 1048576 && ltb n m) None (Some 3) ≡ Some 3 = rw t refl in let z : ◌≡◌ {A = ℕ} 0 1 = cc in absurd (omega arith))
+      (λ (t : (ltb n 1048576 && ltb n m) ≡ false). let x : cond {A = Option ℕ} (ltb n 1048576 && ltb n m) None (Some 3) ≡ Some 3 = rw t refl in absurd (cc))
       (cases_Bool (ltb n 1048576 && ltb n m))
 
   accepted-call : (c : Call D) (b : Ledger D) (v : Recording) (ds : List D) → first_no (questions c (length ds) v) ≡ None → Keeps b.scene b.entries v ds
@@ -263,36 +264,15 @@ module _ {D : Type 0} (box_of : D → Option RectU16) (mode_of : D → Option Bl
   accepted-call (call.Open props f) b v ds e w = keeps-open b.scene b.entries v ds w props f
   accepted-call call.Close b v ds e w = keeps-close b.scene b.entries v ds w (closes v.account e)
 
-  -- an accepted call was asked nothing that it answered with no
-  none-asked : (o : Option ℕ) (c : Call D) (r : Recording) (a : Answer) → accepted a ≡ true → AnsweredBy o c r a → o ≡ None
-  none-asked None c r a e h = refl
-  none-asked (Some n) c r answer.Reset e h = absurd h
-  none-asked (Some n) c r (answer.Drawn i) e h = absurd h
-  none-asked (Some n) c r (answer.Entered l) e h = absurd h
-  none-asked (Some n) c r (answer.Left k) e h = absurd h
-  none-asked (Some n) c r (answer.Refused x) e h = let z : ◌≡◌ {A = ℕ} 0 1 = cc in absurd (omega arith)
-
   -- any call
-  pub keeps-made : (c : Call D) (a : Answer) (b : Ledger D) (v v' : Recording) (ds ds' : List D) → Made box_of mode_of c a v v' ds ds' → Keeps b.scene b.entries v ds
+  pub keeps-made : (c : Call D) (a : Result Answer Refusal) (b : Ledger D) (v v' : Recording) (ds ds' : List D) → Made box_of mode_of c a v v' ds ds' → Keeps b.scene b.entries v ds
       → Keeps (after b c a).scene (after b c a).entries v' ds'
-  keeps-made c a b v v' ds ds' m w =
-      ⊎_elim
-      (λ (t : accepted a ≡ true).
-      let e = none-asked (first_no (questions c (length ds) v)) c v a t m.answered in
-      let r : v' ≡ after_call box_of mode_of c v = m.recorded ∙ cond-true (accepted a) _ _ t in
-      let l : ds' ≡ written box_of mode_of c v ds = m.list ∙ cond-true (accepted a) _ _ t in
-      let x : after b c a ≡ noted b c = cond-true (accepted a) _ _ t in
-      subst (λ z. Keeps z.scene z.entries v' ds') (sym x) (subst (λ z. Keeps (noted b c).scene (noted b c).entries v' z) (sym l) (subst (λ z. Keeps (noted b c).scene (noted b c).entries z (written box_of mode_of c v ds)) (sym r) (accepted-call c b v ds e w))))
-      (λ (t : accepted a ≡ false).
-      let r : v' ≡ v = m.recorded ∙ cond-false (accepted a) _ _ t in
-      let l : ds' ≡ ds = m.list ∙ cond-false (accepted a) _ _ t in
-      let x : after b c a ≡ b = cond-false (accepted a) _ _ t in
-      subst (λ z. Keeps z.scene z.entries v' ds') (sym x) (subst (λ z. Keeps b.scene b.entries v' z) (sym l) (subst (λ z. Keeps b.scene b.entries z ds) (sym r) w)))
-      (cases_Bool (accepted a))
+  keeps-made c (Ok a) b v v' ds ds' m w = rw (m.recorded, m.list) (accepted-call c b v ds m.answered.0 w)
+  keeps-made c (Err e) b v v' ds ds' m w = rw (m.recorded, m.list) w
 
   none_open : (opened : List OpenLayer) → ids opened ≡ [] → opened ≡ []
   none_open [] e = refl
-  none_open (o ∷ os) e = let z : ◌≡◌ {A = ℕ} 0 1 = cc in absurd (omega arith)
+  none_open (o ∷ os) e = absurd (cc)
 
   walk-lists : (b : Ledger D) (v : Recording) (ds : List D) → opened b.entries ≡ [] → Keeps b.scene b.entries v ds → walked v ≡ numbers b.entries
   walk-lists b v ds none w = shown-all (numbers b.entries) v.tree.nodes v.account.layers (subst (λ z. Shown (numbers b.entries) v.tree.nodes z v.account.layers) (sym w.unclosed ∙ none) w.shown)
@@ -301,7 +281,7 @@ module _ {D : Type 0} (box_of : D → Option RectU16) (mode_of : D → Option Bl
   all-stand b v ds w = each-weaker (StandsBefore v.account.drawn ds) (Stands ds) (stands_plain v.account.drawn ds) b.entries w.stands
 
   filter-below : (table : List RecordedLayer) (l : ℕ) → filter_at table l ≡ true → l < length table
-  filter-below [] l e = let z : ◌≡◌ {A = ℕ} 0 1 = cc in absurd (omega arith)
+  filter-below [] l e = absurd (cc)
   filter-below (x ∷ table) zero e = omega arith
   filter-below (x ∷ table) (suc l) e = let h = filter-below table l e in omega arith
 
@@ -371,7 +351,7 @@ module _ {D : Type 0} (box_of : D → Option RectU16) (mode_of : D → Option Bl
       }
 
   -- one more answer
-  answered-push : (places : ℕ) (b : Ledger D) (cs : List (Call D)) (answers : List Answer) (c : Call D) (a : Answer) → length cs ≡ length answers → AllAnswered box_of mode_of places b cs answers
+  answered-push : (places : ℕ) (b : Ledger D) (cs : List (Call D)) (answers : List (Result Answer Refusal)) (c : Call D) (a : Result Answer Refusal) → length cs ≡ length answers → AllAnswered box_of mode_of places b cs answers
       → Answered c places (recorded box_of mode_of (ledger_from b cs answers)) a → AllAnswered box_of mode_of places b (cs ++ (c ∷ [])) (answers ++ (a ∷ []))
   answered-push places b [] [] c a h all x = (x, tt)
   answered-push places b [] (y ∷ ys) c a h all x = absurd (omega arith)
@@ -379,23 +359,23 @@ module _ {D : Type 0} (box_of : D → Option RectU16) (mode_of : D → Option Bl
   answered-push places b (z ∷ zs) (y ∷ ys) c a h all x = (all.0, answered-push places (after b z y) zs ys c a (omega arith) all.1 x)
 
   -- the draw list after one more call
-  draw-list-push : (b : Ledger D) (cs : List (Call D)) (answers : List Answer) (c : Call D) (a : Answer) (ds : List D) → length cs ≡ length answers
+  draw-list-push : (b : Ledger D) (cs : List (Call D)) (answers : List (Result Answer Refusal)) (c : Call D) (a : Result Answer Refusal) (ds : List D) → length cs ≡ length answers
       → draw_list box_of mode_of b (cs ++ (c ∷ [])) (answers ++ (a ∷ [])) ds
-      ≡ cond (accepted a) (written box_of mode_of c (recording_for box_of mode_of (ledger_from b cs answers)) (draw_list box_of mode_of b cs answers ds)) (draw_list box_of mode_of b cs answers ds)
+      ≡ cond (is_ok a) (written box_of mode_of c (recording_for box_of mode_of (ledger_from b cs answers)) (draw_list box_of mode_of b cs answers ds)) (draw_list box_of mode_of b cs answers ds)
   draw-list-push b [] [] c a ds h = refl
   draw-list-push b [] (y ∷ ys) c a ds h = absurd (omega arith)
   draw-list-push b (z ∷ zs) [] c a ds h = absurd (omega arith)
-  draw-list-push b (z ∷ zs) (y ∷ ys) c a ds h = draw-list-push (after b z y) zs ys c a (cond (accepted y) (written box_of mode_of z (recording_for box_of mode_of b) ds) ds) (omega arith)
+  draw-list-push b (z ∷ zs) (y ∷ ys) c a ds h = draw-list-push (after b z y) zs ys c a (cond (is_ok y) (written box_of mode_of z (recording_for box_of mode_of b) ds) ds) (omega arith)
 
   -- after i calls of a run that began with the draw list `old`
-  pub record SoFar (old : List D) (calls : List (Call D)) (answers first : List Answer) (i : ℕ) (v : Recording) (ds : List D) : Type 0 where
+  pub record SoFar (old : List D) (calls : List (Call D)) (answers first : List (Result Answer Refusal)) (i : ℕ) (v : Recording) (ds : List D) : Type 0 where
     pub keeps : Keeps (ledger (take i calls) (take i answers)).scene (ledger (take i calls) (take i answers)).entries v ds
     pub answered : AllAnswered box_of mode_of (length old) empty (take i calls) (take i answers)
     pub later : drop i answers ≡ drop i first
     pub long : length ds ≡ length old
     pub list : ds ≡ draw_list box_of mode_of empty (take i calls) (take i answers) old
 
-  pub reached-next : (old : List D) (calls : List (Call D)) (answers first : List Answer) (i : ℕ) (c : Call D) (a : Answer) (v v' : Recording) (ds ds' : List D)
+  pub reached-next : (old : List D) (calls : List (Call D)) (answers first : List (Result Answer Refusal)) (i : ℕ) (c : Call D) (a : Result Answer Refusal) (v v' : Recording) (ds ds' : List D)
       → i < length calls → i < length answers → c ≡ get_or calls i c → length ds' ≡ length ds → Made box_of mode_of c a v v' ds ds' → SoFar old calls answers first i v ds
       → SoFar old calls (set answers i a) first (i + 1) v' ds'
   reached-next old calls answers first i c a v v' ds ds' lt lt' is long m w =
@@ -410,7 +390,7 @@ module _ {D : Type 0} (box_of : D → Option RectU16) (mode_of : D → Option Bl
       let past : i < i + 1 = omega arith in
       let one : drop (i + 1) answers ≡ drop (i + 1) first = sym (drop-drop 1 i answers) ∙ ap (drop 1) w.later ∙ drop-drop 1 i first in
       let pushed = draw-list-push empty (take i calls) (take i answers) c a old same in
-      let wrote = λ (r : Recording) (zs : List D). cond (accepted a) (written box_of mode_of c r zs) zs in
+      let wrote = λ (r : Recording) (zs : List D). cond (is_ok a) (written box_of mode_of c r zs) zs in
       record {
         keeps = subst (λ z. Keeps z.scene z.entries v' ds') (sym p) k;
         answered = subst (λ z. AllAnswered box_of mode_of (length old) empty z (take (i + 1) (set answers i a))) (sym t) (subst (λ z. AllAnswered box_of mode_of (length old) empty (take i calls ++ (c ∷ [])) z) (sym u) all);

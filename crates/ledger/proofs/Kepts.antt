@@ -101,12 +101,12 @@ shows-record t (Some f) clip c = go (placed (or_zero c) f)
     go (Some p) = refl
 
 shows-at : (t : Tile) (table : List RecordedLayer) (n : ℕ) (x : RecordedLayer) → slice_get table n ≡ Some x → layer_shows t table n ≡ showing t x
-shows-at t [] n x e = let z : ◌≡◌ {A = ℕ} 0 1 = cc in absurd (omega arith)
+shows-at t [] n x e = absurd (cc)
 shows-at t (y ∷ table) zero x e = let same : y ≡ x = cc in ap (showing t) same
 shows-at t (y ∷ table) (suc n) x e = shows-at t table n x e
 
 filter-at : (table : List RecordedLayer) (n : ℕ) (x : RecordedLayer) → slice_get table n ≡ Some x → filter_at table n ≡ filter_kind x.kind
-filter-at [] n x e = let z : ◌≡◌ {A = ℕ} 0 1 = cc in absurd (omega arith)
+filter-at [] n x e = absurd (cc)
 filter-at (y ∷ table) zero x e = let same : y ≡ x = cc in ap (λ z. filter_kind z.kind) same
 filter-at (y ∷ table) (suc n) x e = filter-at table n x e
 

@@ -1,8 +1,8 @@
 -- The ledger, one entry on.
-use Rattle.std.proofs.Common.{◌≡◌, ℕ, ◌+◌, ◌<◌, ◌≢◌, List, [], ◌∷◌, ◌++◌, length, set, refl, ◌∙◌, arith, length-set}
+use Rattle.std.proofs.Common.{◌≡◌, ℕ, ◌+◌, ◌<◌, ◌≢◌, List, [], ◌∷◌, ◌++◌, length, set, Result, refl, ◌∙◌, arith, length-set}
 use Rattle.std.proofs.lemmas.List.{get_or-set_same, get_or-set_other}
 use Rattle.ledger.specs.declared.call.Call.{Call}
-use Rattle.ledger.specs.declared.call.Answer.{Answer}
+use Rattle.refusal.specs.declared.Refusal.{Refusal}
 use Rattle.ledger.specs.Ledger.{Entry, Draw, Enter, Leave, Ledger, is_draw, is_enter, draws_in, layers_in, open_step, open_from, after, ledger_from}
 use Rattle.ledger.specs.Laws.{Each, Stands}
 
@@ -52,7 +52,7 @@ module _ {D : Type 0} where
   stands_plain m ds (Leave n) s = tt
 
   -- one call on
-  pub ledger-push : (b : Ledger D) (cs : List (Call D)) (as' : List Answer) (c : Call D) (a : Answer) → length cs ≡ length as'
+  pub ledger-push : {A : Type 0} (b : Ledger D) (cs : List (Call D)) (as' : List (Result A Refusal)) (c : Call D) (a : Result A Refusal) → length cs ≡ length as'
       → ledger_from b (cs ++ (c ∷ [])) (as' ++ (a ∷ [])) ≡ after (ledger_from b cs as') c a
   ledger-push b [] [] c a h = refl
   ledger-push b [] (y ∷ ys) c a h = absurd (omega arith)

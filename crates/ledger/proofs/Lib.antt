@@ -12,5 +12,4 @@ pub mod Nesteds
 pub mod Tiles
 pub mod Kepts
 pub mod Surfaces
-pub mod Made
 pub mod Reached

@@ -108,7 +108,7 @@ module _ {D : Type 0} (box_of : D → Option RectU16) (mode_of : D → Option Bl
     u = record { account = account_after_closing k.result v.account; tree = tree_after_closing k.layer.id k.result v.tree }
 
     close-frames : (fs : List (Frame D)) (x : Sheet D) → NestedAs es fs x v → Nested (es ++ (Leave k.layer.id ∷ [])) u
-    close-frames [] x w = let none : k.layer ∷ k.outer ≡ [] = sym k.is ∙ w.opened in let z : ◌≡◌ {A = ℕ} 0 1 = cc in absurd (omega arith)
+    close-frames [] x w = let none : k.layer ∷ k.outer ≡ [] = sym k.is ∙ w.opened in absurd (cc)
     close-frames (frame before n op ∷ fs) x w =
         let o = k.layer in
         let both : o ∷ k.outer ≡ open_with n op (contents box_of x) ∷ open_layers_of box_of fs before = sym k.is ∙ w.opened in
@@ -160,4 +160,4 @@ module _ {D : Type 0} (box_of : D → Option RectU16) (mode_of : D → Option Bl
       go [] x n = n
       go (frame before l o ∷ fs) x n =
           let e : [] ≡ open_with l o (contents box_of x) ∷ open_layers_of box_of fs before = sym none ∙ n.opened in
-          let z : ◌≡◌ {A = ℕ} 0 1 = cc in absurd (omega arith)
+          absurd (cc)

@@ -1,5 +1,5 @@
 -- What calls made one by one lead to, and what walks then list, said of the ledger.
-use Rattle.std.proofs.Common.{◌≡◌, ℕ, ◌+◌, ◌*◌, Bool, true, false, cond, leb, List, [], ◌∷◌, ◌++◌, length, drop, is_some, IfSome, Some, None, Ok, Err, Option, Result, sym, refl, ap, ◌∙◌, subst, ap₂, arith, length-append}
+use Rattle.std.proofs.Common.{◌≡◌, ℕ, ◌+◌, ◌*◌, Bool, true, false, cond, leb, List, [], ◌∷◌, ◌++◌, length, drop, is_ok, is_none, is_some, IfSome, Some, None, Ok, Err, Option, Result, sym, refl, ap, ◌∙◌, subst, ap₂, arith, length-append}
 use Rattle.refusal.specs.Refusals.{Question, first_no, Answers}
 use Rattle.refusal.specs.declared.Refusal.{Refusal}
 use Rattle.geometry.specs.declared.rect.RectU16.{RectU16}
@@ -13,6 +13,9 @@ use Rattle.tiles.specs.declared.surface.Surface.{Surface}
 use Rattle.tiles.specs.declared.surface.Surface.TheVariants as surfaces
 use Rattle.walk.specs.FullWalk.{FullWalk, entry_count, walk_questions}
 use Rattle.tiles.specs.Tile.{draw_shows, is_surface, tile_fits, tile_listed, tile_questions, TileWalk, hit_questions, draw_listed, any_draw}
+use Rattle.ledger.specs.declared.call.Answer.{Answer}
+use Rattle.ledger.specs.declared.call.Call.{Call}
+use Rattle.ledger.specs.Runs.{questions, Answered}
 use Rattle.ledger.specs.Ledger.{Entry, Leave, Ledger, draws_in, layers_in, opened, numbers}
 use Rattle.ledger.specs.Draft.{sheet_of}
 use Rattle.ledger.specs.Laws.{Led, LedAlways}
@@ -27,14 +30,19 @@ pub answers-as : {A : Type 0} (r : Result A Refusal) (q q' : List Question) (P P
 answers-as (Ok a) q q' P P' U e f w = (sym e ∙ w.0, f a w.0 w.1)
 answers-as (Err x) q q' P P' U e f w = (sym e ∙ w.0, w.1)
 
+-- a call is accepted exactly where each question is answered with yes
+pub accepted-is : {D : Type 0} (c : Call D) (places : ℕ) (v : Recording) (a : Result Answer Refusal) → Answered c places v a → is_ok a ≡ is_none (first_no (questions c places v))
+accepted-is c places v (Ok a) h = rw h.0
+accepted-is c places v (Err e) h = rw h.0
+
 none_is : (s : List ℕ) → none s ≡ true → s ≡ []
 none_is [] e = refl
-none_is (l ∷ s) e = let z : ◌≡◌ {A = ℕ} 0 1 = cc in absurd (omega arith)
+none_is (l ∷ s) e = absurd (cc)
 
 -- the first question was answered with yes
 first-yes : (a : Bool) (n : ℕ) (x : Option ℕ) → cond a x (Some n) ≡ None → a ≡ true
 first-yes true n x e = refl
-first-yes false n x e = let z : ◌≡◌ {A = ℕ} 0 1 = cc in absurd (omega arith)
+first-yes false n x e = absurd (cc)
 
 -- what follows a question matters only where that is answered with yes
 cond-if : {A : Type 0} (b : Bool) (x y z : A) → (b ≡ true → x ≡ y) → cond b x z ≡ cond b y z

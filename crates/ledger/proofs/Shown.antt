@@ -35,7 +35,7 @@ module _ (out : List Listed) (s : List ℕ) (l : ℕ) where
       none-past l w.past s w.falls (rw (w.tidy none) own)
 
   pub shown-lengthen : (n : ℕ) (t : List Node) → joins t (top s) ≡ true → span_end t ≡ n → Chained t → Shown out t s l → Shown (out ++ (Draw n ∷ [])) (lengthen (n + 1) t) s l
-  shown-lengthen n [] j ends chain w = let z : ◌≡◌ {A = ℕ} 0 1 = cc in absurd (omega arith)
+  shown-lengthen n [] j ends chain w = absurd (cc)
   shown-lengthen n (x ∷ older) j ends chain w =
       let none = free-none x.layer (same x.owner (top s)) j in
       let p = joined-past x older j w in
@@ -70,7 +70,7 @@ module _ (out : List Listed) (s : List ℕ) (l : ℕ) where
       }
 
   pub shown-hang : (t : List Node) → joins t (top s) ≡ true → Shown out t s l → Shown (out ++ (Enter l ∷ [])) (hang l t) (l ∷ s) (l + 1)
-  shown-hang [] j w = let z : ◌≡◌ {A = ℕ} 0 1 = cc in absurd (omega arith)
+  shown-hang [] j w = absurd (cc)
   shown-hang (x ∷ older) j w =
       let none = free-none x.layer (same x.owner (top s)) j in
       let p = joined-past x older j w in
@@ -83,7 +83,7 @@ module _ (out : List Listed) (s : List ℕ) (l : ℕ) where
         told = ap (λ z. z ++ (Enter l ∷ [])) was;
         stack = ap (λ z. l ∷ z) in-s;
         falls = (low, rw p at w.falls);
-        tidy = λ e. let z : ◌≡◌ {A = ℕ} 0 1 = cc in absurd (omega arith);
+        tidy = λ e. absurd (cc);
         found = w.found;
       }
 
@@ -98,7 +98,7 @@ module _ (out : List Listed) (s : List ℕ) (l : ℕ) where
         told = rw (w.stack, left, zero-long) (ap (λ z. z ++ (Enter l ∷ [])) (w.told ∙ sym (append-nil _)));
         stack = rw w.stack (ap (λ z. l ∷ z) now);
         falls = (low, falls-after l w.past s w.falls);
-        tidy = λ e. let z : ◌≡◌ {A = ℕ} 0 1 = cc in absurd (omega arith);
+        tidy = λ e. absurd (cc);
         found = (rw w.stack (ap top now), w.found);
       }
 

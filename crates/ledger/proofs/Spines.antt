@@ -34,11 +34,11 @@ leaves-past b (q ∷ p) s out f = rw (other b q p s f) (leaves-past q p s (out +
 -- where the innermost layer is the active one, none before it is closed
 pub none-past : (b : ℕ) (p s : List ℕ) → Falls b (p ++ s) → same (top (p ++ s)) (top s) ≡ true → p ≡ []
 none-past b [] s f e = refl
-none-past b (q ∷ p) [] f e = let z : ◌≡◌ {A = ℕ} 0 1 = cc in absurd (omega arith)
+none-past b (q ∷ p) [] f e = absurd (cc)
 none-past b (q ∷ p) (l ∷ s) f e =
     let h = falls_below q p l s f.1 in
     let n = ne_eqb q l (λ i. omega arith) in
-    let z : ◌≡◌ {A = ℕ} 0 1 = cc in absurd (omega arith)
+    absurd (cc)
 
 pub unwind-push : (out : List Listed) (p : List ℕ) (l : ℕ) → unwind out (p ++ (l ∷ [])) ≡ unwind out p ++ (Leave l ∷ [])
 unwind-push out [] l = refl

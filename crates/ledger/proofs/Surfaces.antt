@@ -1,6 +1,7 @@
 -- The surface of a filter layer: what stands between its Enter and its Leave, and what is the surface's own.
 use Rattle.std.proofs.Common.{◌≡◌, ℕ, suc, ◌+◌, ◌<◌, ◌≤◌, Bool, true, false, ◌&&◌, eqb, List, [], ◌∷◌, ◌++◌, None, Option, sym, refl, ap, ◌∙◌, ap₂, ⊎_elim, arith}
 use Rattle.std.proofs.lemmas.List.{append-nil}
+use Rattle.std.proofs.Math.Arith.{lt_of_le-ne}
 use Rattle.std.proofs.lemmas.Bool.{cases_Bool, cases_lt, cases_eq, cond-true, cond-false, eq-eqb, ne_eqb, not-true}
 use Rattle.geometry.specs.declared.rect.RectU16.{RectU16}
 use Rattle.geometry.specs.declared.tile.Tile.{Tile}
@@ -147,11 +148,8 @@ module _ {D : Type 0} (box_of : D → Option RectU16) (t : Tile) (seen : ℕ →
   locate (layer n p inside rest) k o a b g =
       ⊎_elim (λ e. located_here n p inside rest k o e g)
       (λ ne.
-      let past : suc k ≤ l = omega (arith, lt-from-ne k l a (λ q. ne (sym q ∙ sym o.0))) in
+      let past : suc k ≤ l = omega (arith, lt_of_le-ne a (λ q. ne (sym q ∙ sym o.0))) in
       ⊎_elim (λ below. located-inside n p inside rest k o ne below (locate inside (suc k) o.1.0 past (omega arith) g.1.0))
       (λ above. located-behind n p inside rest k o ne above (locate rest (suc (k + size inside)) o.1.1 above (omega arith) g.1.1))
       (cases_lt l (suc (k + size inside))))
       (cases_eq l n)
-    where
-      lt-from-ne : (i j : ℕ) → i ≤ j → (i ≡ j → ⊥) → i < j
-      lt-from-ne i j h ne = ⊎_elim (λ q. q) (λ q. absurd (ne (omega arith))) (cases_lt i j)

@@ -52,17 +52,17 @@ module _ (t : Tile) where
   -- a box that was put into contents shows in them, and what showed goes on showing
   put-kept : (b c : Option RectU16) → box_shows t c ≡ true → box_shows t (put b c) ≡ true
   put-kept None c e = e
-  put-kept (Some b) None e = let z : ◌≡◌ {A = ℕ} 0 1 = cc in absurd (omega arith)
+  put-kept (Some b) None e = absurd (cc)
   put-kept (Some b) (Some c) e = cond_both (empty b) (Some c) (Some (joined c b)) (λ z. box_shows t z ≡ true) (λ _. e) (λ _. joined-left c b e)
 
   put-new : (b c : Option RectU16) → box_shows t b ≡ true → box_shows t (put b c) ≡ true
-  put-new None c e = let z : ◌≡◌ {A = ℕ} 0 1 = cc in absurd (omega arith)
+  put-new None c e = absurd (cc)
   put-new (Some b) None e = rw (full t b e) e
   put-new (Some b) (Some c) e = rw (full t b e) (joined-right c b e)
 
   -- a regular layer's box
   clipped-boxed : (c clip : Option RectU16) → box_shows t c ≡ true → unhidden t clip ≡ true → covered t (clipped (or_zero c) clip) ≡ true
-  clipped-boxed None clip e u = let z : ◌≡◌ {A = ℕ} 0 1 = cc in absurd (omega arith)
+  clipped-boxed None clip e u = absurd (cc)
   clipped-boxed (Some b) None e u = e
   clipped-boxed (Some b) (Some k) e u = both b k e u
 
@@ -72,11 +72,11 @@ module _ (t : Tile) where
 
   regular-boxed : (f : Option FilterData) (c clip : Option RectU16) → regular f ≡ true → box_shows t c ≡ true → unhidden t clip ≡ true → covered t (or_nothing (closing_by f clip c)).in_parent ≡ true
   regular-boxed None c clip r e u = clipped-boxed c clip e u
-  regular-boxed (Some f) c clip r e u = let z : ◌≡◌ {A = ℕ} 0 1 = cc in absurd (omega arith)
+  regular-boxed (Some f) c clip r e u = absurd (cc)
 
   regular-clipped : (f : Option FilterData) (c clip : Option RectU16) → regular f ≡ true → covered t (or_nothing (closing_by f clip c)).in_parent ≡ true → unhidden t clip ≡ true
   regular-clipped None c clip r e = boxed-clipped (or_zero c) clip e
-  regular-clipped (Some f) c clip r e = let z : ◌≡◌ {A = ℕ} 0 1 = cc in absurd (omega arith)
+  regular-clipped (Some f) c clip r e = absurd (cc)
 
   abbrev Plain : List Around → Type 0
   Plain [] = Unit {0}

@@ -1,14 +1,13 @@
 -- The ledger of a run: what was accepted, in order, by the calls' arguments and which of them were accepted alone.
-use Rattle.std.specs.Prelude.{ℕ, ◌+◌, Bool, true, false, cond, List, [], ◌∷◌, ◌++◌, map, Option}
+use Rattle.std.specs.Prelude.{ℕ, ◌+◌, if◌then◌else◌, List, [], ◌∷◌, ◌++◌, map, is_ok, Option, Result}
 use Rattle.geometry.specs.declared.size.SizeU16.{SizeU16}
 use Rattle.geometry.specs.Size.{size}
 use Rattle.filter.specs.declared.data.FilterData.{FilterData}
 use Rattle.layers.specs.declared.props.LayerProps.{LayerProps}
 use Rattle.record.specs.Account.{scene_of}
+use Rattle.refusal.specs.declared.Refusal.{Refusal}
 use Rattle.walk.specs.declared.listed.Listed.{Listed}
 use Rattle.walk.specs.declared.listed.Listed.TheVariants as listed
-use Rattle.ledger.specs.declared.call.Answer.{Answer}
-use Rattle.ledger.specs.declared.call.Answer.TheVariants as answer
 use Rattle.ledger.specs.declared.call.Call.{Call}
 use Rattle.ledger.specs.declared.call.Call.TheVariants as call
 
@@ -82,30 +81,22 @@ noted b (call.Draw d) = record { scene = b.scene; entries = b.entries ++ (Draw (
 noted b (call.Open props f) = record { scene = b.scene; entries = b.entries ++ (Enter (layers_in b.entries) (record { props = props; filter = f }) ∷ []) }
 noted b call.Close = record { scene = b.scene; entries = closed b.entries (opened b.entries) }
 
--- every answer but a refusal
-abbrev pub accepted : Answer → Bool
-accepted answer.Reset = true
-accepted (answer.Drawn n) = true
-accepted (answer.Entered l) = true
-accepted (answer.Left k) = true
-accepted (answer.Refused e) = false
-
--- the ledger after one more call; a refused one adds nothing
-abbrev pub after : {D : Type 0} → Ledger D → Call D → Answer → Ledger D
-after b c a = cond (accepted a) (noted b c) b
+-- the ledger after one more call, whatever an accepted one answered; a refused one adds nothing
+abbrev pub after : {D A : Type 0} → Ledger D → Call D → Result A Refusal → Ledger D
+after b c a = if is_ok a then noted b c else b
 
 -- nothing accepted, and a scene of no size
 abbrev pub empty : {D : Type 0} → Ledger D
 empty = record { scene = size 0 0; entries = [] }
 
 -- the ledger b after the calls as they were answered
-abbrev pub ledger_from : {D : Type 0} → Ledger D → List (Call D) → List Answer → Ledger D
+abbrev pub ledger_from : {D A : Type 0} → Ledger D → List (Call D) → List (Result A Refusal) → Ledger D
 ledger_from b [] answers = b
 ledger_from b (c ∷ cs) [] = b
 ledger_from b (c ∷ cs) (a ∷ rest) = ledger_from (after b c a) cs rest
 
 -- the ledger of the calls as they were answered
-abbrev pub ledger : {D : Type 0} → List (Call D) → List Answer → Ledger D
+abbrev pub ledger : {D A : Type 0} → List (Call D) → List (Result A Refusal) → Ledger D
 ledger cs answers = ledger_from empty cs answers
 
 -- an entry as a walk lists it

@@ -1,6 +1,7 @@
 -- What the rules make of a ledger, and what a call answers.
-use Rattle.std.specs.Prelude.{◌≡◌, ℕ, List, [], ◌∷◌, Some, None, Option}
-use Rattle.refusal.specs.Refusals.{Question, first_no, number_of}
+use Rattle.std.specs.Prelude.{◌≡◌, ℕ, List, [], ◌∷◌, Option, Result, ⊤}
+use Rattle.refusal.specs.Refusals.{Question, Answers}
+use Rattle.refusal.specs.declared.Refusal.{Refusal}
 use Rattle.geometry.specs.declared.rect.RectU16.{RectU16}
 use Rattle.draws.specs.declared.blend.BlendMode.{BlendMode}
 use Rattle.record.specs.Account.{close_questions}
@@ -25,18 +26,9 @@ Fitting (call.Draw d) r a = a ≡ answer.Drawn r.account.drawn
 Fitting (call.Open props f) r a = a ≡ answer.Entered r.account.layers
 Fitting call.Close r a = a ≡ answer.Left (innermost_kind r.account.opened)
 
--- the answer to a call, by the number of the first question that is answered with no
-abbrev pub AnsweredBy : {D : Type 0} → Option ℕ → Call D → Recording → Answer → Type 0
-AnsweredBy None c r a = Fitting c r a
-AnsweredBy (Some n) c r (answer.Refused e) = n ≡ number_of e
-AnsweredBy (Some n) c r answer.Reset = ⊥
-AnsweredBy (Some n) c r (answer.Drawn i) = ⊥
-AnsweredBy (Some n) c r (answer.Entered l) = ⊥
-AnsweredBy (Some n) c r (answer.Left k) = ⊥
-
 -- the answer to a call: the first question that is answered with no decides
-abbrev pub Answered : {D : Type 0} → Call D → ℕ → Recording → Answer → Type 0
-Answered c places r a = AnsweredBy (first_no (questions c places r)) c r a
+abbrev pub Answered : {D : Type 0} → Call D → ℕ → Recording → Result Answer Refusal → Type 0
+Answered c places r a = Answers (questions c places r) a (Fitting c r) ⊤
 
 module _ {D : Type 0} (box_of : D → Option RectU16) (mode_of : D → Option BlendMode) where
   -- what the rules make of one more entry
@@ -55,7 +47,7 @@ module _ {D : Type 0} (box_of : D → Option RectU16) (mode_of : D → Option Bl
   recorded b = recorded_from (empty_recording b.scene) b.entries
 
   -- each call was answered as the rules say of the ledger before it
-  abbrev pub AllAnswered : ℕ → Ledger D → List (Call D) → List Answer → Type 0
-  AllAnswered places b [] answers = Unit {0}
+  abbrev pub AllAnswered : ℕ → Ledger D → List (Call D) → List (Result Answer Refusal) → Type 0
+  AllAnswered places b [] answers = ⊤
   AllAnswered places b (c ∷ cs) [] = ⊥
   AllAnswered places b (c ∷ cs) (a ∷ rest) = Answered c places (recorded b) a × AllAnswered places (after b c a) cs rest

@@ -1,8 +1,7 @@
-// The recording calls as values, and their answers.
+// The recording calls as values, and what is answered to those that are accepted.
 use filter::data::FilterData;
 use layers::layer::PoppedLayer;
 use layers::props::LayerProps;
-use refusal::Refusal;
 
 #[derive(Clone, Copy)]
 pub enum Call<D> {
@@ -18,11 +17,10 @@ pub enum Call<D> {
     Close,
 }
 
-#[derive(Clone, Copy)]
+#[derive(Clone, Copy, Debug, PartialEq, Eq)]
 pub enum Answer {
     Reset,
     Drawn(u32),
     Entered(u32),
     Left(PoppedLayer),
-    Refused(Refusal),
 }

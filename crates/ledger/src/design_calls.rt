@@ -1,14 +1,13 @@
 // The calls of a design. Each says what it means of every ledger that led to the design.
-ghost use Rattle.std.specs.Prelude.{◌≡◌, true, false, length, is_some, IfSome, vec_len};
+ghost use Rattle.std.specs.Prelude.{◌≡◌, true, length, is_ok, is_some, IfSome, OnErr, vec_len, ⊤};
 ghost use Rattle.refusal.specs.Refusals.{Answers};
-ghost use Rattle.record.specs.Recording.{recording};
 ghost use Rattle.walk.specs.FullWalk.{FullWalk, walk_questions};
 ghost use Rattle.tiles.specs.declared.surface.Surface.TheVariants.{Scene};
-ghost use Rattle.tiles.specs.Tile.{draw_shows, tile_listed, tile_questions, TileWalk, hit_questions, draw_listed, any_draw};
+ghost use Rattle.tiles.specs.Tile.{tile_questions, TileWalk, hit_questions, draw_listed, any_draw};
 ghost use Rattle.ledger.specs.Laws.{Led, LedAlways};
-ghost use Rattle.ledger.specs.Ledger.{Ledger, empty, after, accepted};
+ghost use Rattle.ledger.specs.Ledger.{empty};
 ghost use Rattle.ledger.specs.Made.{Made};
-ghost use Rattle.ledger.specs.Reached.{Reached, ListsAll, ListsTile, HitsListed, HitsAny};
+ghost use Rattle.ledger.specs.Reached.{Reached, OfLedgers, LeadsOn, box_in, draw_shows_in, tile_listed_in, ListsAll, ListsTile, HitsListed, HitsAny};
 
 use crate::call::{Answer, Call};
 use crate::design::Design;
@@ -39,11 +38,10 @@ impl<'a, D: Drawable + Copy> Design<'a, D> {
     }
 
     // Makes one call. A refused one alters nothing.
-    pub fn make(&mut self, call: Call<D>) -> Answer
-        ensures made { Made (λ d. D.box_of d self.old.strips.now) D.mode_of call result (recording self.old.recorder) (recording self.new.recorder) self.old.draws.items self.new.draws.items }
-        ensures kept { accepted result ≡ false → self.new.recorder ≡ self.old.recorder }
-        ensures strips { self.new.strips.now ≡ self.old.strips.now }
-        ensures leads { (b : Ledger D) → Reached D.box_of D.mode_of b self.old → Reached D.box_of D.mode_of (after b call result) self.new }
+    pub fn make(&mut self, call: Call<D>) -> Result<Answer, Refusal>
+        ensures made { Made (box_in D.box_of self.old) D.mode_of call result self.old.recorder self.new.recorder self.old.draws.items self.new.draws.items }
+        ensures kept { OnErr result (self.new.recorder ≡ self.old.recorder) }
+        ensures leads { LeadsOn D.box_of D.mode_of call (is_ok result) self.old self.new }
     {
         make_call(
             &mut self.recorder,
@@ -55,8 +53,8 @@ impl<'a, D: Drawable + Copy> Design<'a, D> {
 
     // Lists all that was recorded, from the first place of `out` on, and answers the count of entries.
     pub fn full_walk(&self, out: &mut [Listed]) -> Result<usize, Refusal>
-        ensures walked { Answers (walk_questions (recording self.now.recorder) (length out.old)) result (λ n. FullWalk (recording self.now.recorder) n out.old out.new) (out.new ≡ out.old) }
-        ensures law { (b : Ledger D) → Reached D.box_of D.mode_of b self.now → ListsAll b result out.old out.new }
+        ensures walked { Answers (walk_questions self.now.recorder (length out.old)) result (λ n. FullWalk self.now.recorder n out.old out.new) (out.new ≡ out.old) }
+        ensures law { OfLedgers D.box_of D.mode_of self.now (λ b. ListsAll b result out.old out.new) }
     {
         full_walk(&self.recorder, out)
     }
@@ -68,8 +66,8 @@ impl<'a, D: Drawable + Copy> Design<'a, D> {
         tile: Tile,
         out: &mut [Listed],
     ) -> Result<usize, Refusal>
-        ensures walked { Answers (tile_questions surface tile (draw_shows (λ d. D.box_of d self.now.strips.now) tile self.now.draws.items) (recording self.now.recorder) (vec_len self.now.draws) (length out.old)) result (λ n. TileWalk surface tile (draw_shows (λ d. D.box_of d self.now.strips.now) tile self.now.draws.items) (recording self.now.recorder) n out.old out.new) (out.new ≡ out.old) }
-        ensures law { (b : Ledger D) → Reached D.box_of D.mode_of b self.now → ListsTile (λ d. D.box_of d self.now.strips.now) surface tile b (vec_len self.now.draws) result out.old out.new }
+        ensures walked { Answers (tile_questions surface tile (draw_shows_in D.box_of self.now tile) self.now.recorder (vec_len self.now.draws) (length out.old)) result (λ n. TileWalk surface tile (draw_shows_in D.box_of self.now tile) self.now.recorder n out.old out.new) (out.new ≡ out.old) }
+        ensures law { OfLedgers D.box_of D.mode_of self.now (λ b. ListsTile (box_in D.box_of self.now) surface tile b (vec_len self.now.draws) result out.old out.new) }
     {
         tile_walk(
             &self.recorder,
@@ -83,10 +81,10 @@ impl<'a, D: Drawable + Copy> Design<'a, D> {
 
     // A draw that the tile shows of the scene; none where it shows no draw.
     pub fn hit(&self, tile: Tile) -> Result<Option<u32>, Refusal>
-        ensures some { Answers (hit_questions tile (recording self.now.recorder) (vec_len self.now.draws)) result (λ h. IfSome h (λ n. draw_listed n (tile_listed Scene tile (draw_shows (λ d. D.box_of d self.now.strips.now) tile self.now.draws.items) (recording self.now.recorder)) ≡ true)) (Unit {0}) }
-        ensures none { Answers (hit_questions tile (recording self.now.recorder) (vec_len self.now.draws)) result (λ h. is_some h ≡ any_draw (tile_listed Scene tile (draw_shows (λ d. D.box_of d self.now.strips.now) tile self.now.draws.items) (recording self.now.recorder))) (Unit {0}) }
-        ensures some_law { (b : Ledger D) → Reached D.box_of D.mode_of b self.now → HitsListed (λ d. D.box_of d self.now.strips.now) tile b (vec_len self.now.draws) result }
-        ensures none_law { (b : Ledger D) → Reached D.box_of D.mode_of b self.now → HitsAny (λ d. D.box_of d self.now.strips.now) tile b (vec_len self.now.draws) result }
+        ensures some { Answers (hit_questions tile self.now.recorder (vec_len self.now.draws)) result (λ h. IfSome h (λ n. draw_listed n (tile_listed_in D.box_of self.now Scene tile) ≡ true)) ⊤ }
+        ensures none { Answers (hit_questions tile self.now.recorder (vec_len self.now.draws)) result (λ h. is_some h ≡ any_draw (tile_listed_in D.box_of self.now Scene tile)) ⊤ }
+        ensures some_law { OfLedgers D.box_of D.mode_of self.now (λ b. HitsListed (box_in D.box_of self.now) tile b (vec_len self.now.draws) result) }
+        ensures none_law { OfLedgers D.box_of D.mode_of self.now (λ b. HitsAny (box_in D.box_of self.now) tile b (vec_len self.now.draws) result) }
     {
         hit(&self.recorder, tile, self.draws.as_slice(), self.strips)
     }
@@ -94,8 +92,8 @@ impl<'a, D: Drawable + Copy> Design<'a, D> {
     // The recorder, to be read. What it holds is what the ledger says.
     pub fn recorder(&self) -> &CommandRecorder
         ensures value { result.now ≡ self.now.recorder }
-        ensures led { (b : Ledger D) → Reached D.box_of D.mode_of b self.now → LedAlways (λ d. D.box_of d self.now.strips.now) D.mode_of b (recording result.now) self.now.draws.items }
-        ensures by_rules { (b : Ledger D) → Reached D.box_of D.mode_of b self.now → Led (λ d. D.box_of d self.now.strips.now) D.mode_of b (recording result.now) self.now.draws.items }
+        ensures led { OfLedgers D.box_of D.mode_of self.now (λ b. LedAlways (box_in D.box_of self.now) D.mode_of b result.now self.now.draws.items) }
+        ensures by_rules { OfLedgers D.box_of D.mode_of self.now (λ b. Led (box_in D.box_of self.now) D.mode_of b result.now self.now.draws.items) }
     {
         &self.recorder
     }

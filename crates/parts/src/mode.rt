@@ -1,5 +1,5 @@
 // Blend modes.
-ghost use Rattle.text.specs.Readers.{left, Reads};
+ghost use Rattle.text.specs.Readers.{Reads};
 ghost use Rattle.parts.specs.Shapes.{mode_of};
 
 use draws::blend::BlendMode;
@@ -8,12 +8,11 @@ use text::words::Words;
 
 // `[mode MIX COMPOSE]`
 pub fn read_mode(words: &mut Words<'_>) -> Result<Option<BlendMode>, Reason>
-    ensures { Reads mode_of (left words.old) result (left words.new) }
+    ensures { Reads mode_of words.old result words.new }
 {
     if !words.take("mode") {
         return Ok(None);
     }
-    let mix = words.number8()?;
-    let compose = words.number8()?;
+    let (mix, compose) = words.pair()?;
     Ok(Some(BlendMode { mix, compose }))
 }

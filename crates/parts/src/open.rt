@@ -1,6 +1,7 @@
 // The opening of a layer, as a script writes it. Its parts stand in one order, and each may be left out.
-ghost use Rattle.text.specs.Readers.{left, Reads, Told, following, behind};
-ghost use Rattle.parts.specs.Openings.{ReadsWith, opacity_of, mask_of, path_of, clip_of, props_of, filter_of, Opens};
+// Each part asks for its word itself: a function for all would take the rest as a closure, and ask something of it.
+ghost use Rattle.text.specs.Readers.{Reads, following, behind};
+ghost use Rattle.parts.specs.Openings.{opacity_of, mask_of, path_of, clip_of, props_of, filter_of, open_of};
 ghost use Rattle.parts.specs.Shapes.{padding_of};
 
 use crate::mode::read_mode;
@@ -14,35 +15,30 @@ use text::words::Words;
 
 // `[opacity F]`, full opacity where it is left out
 fn read_opacity(words: &mut Words<'_>) -> Result<f32, Reason>
-    ensures { ReadsWith opacity_of (λ o. o) (left words.old) result (left words.new) }
+    ensures { Reads opacity_of words.old result words.new }
 {
     if !words.take("opacity") {
         return Ok(1.0);
     }
-    match words.next_word() {
-        Some(word) => match word.parse::<f32>() {
-            Ok(opacity) => Ok(opacity),
-            Err(_) => Err(Reason::NotAnOpacity),
-        },
-        None => Err(Reason::NumberMissing),
-    }
+    let word = words.next_word().ok_or(Reason::NumberMissing)?;
+    word.parse().map_err(|_| Reason::NotAnOpacity)
 }
 
 // `[path START END THREAD]`, no strip of list 0 where it is left out
 fn read_path(words: &mut Words<'_>) -> Result<(StripRange, u8), Reason>
-    ensures { Reads path_of (left words.old) result (left words.new) }
+    ensures { Reads path_of words.old result words.new }
 {
     if !words.take("path") {
         return Ok((StripRange { start: 0, end: 0 }, 0));
     }
-    let (start, end) = words.pair32()?;
-    let thread_idx = words.number8()?;
+    let (start, end) = words.pair()?;
+    let thread_idx = words.number()?;
     Ok((StripRange { start, end }, thread_idx))
 }
 
 // `[clip X0 Y0 X1 Y1 [path START END THREAD]]`
 fn read_clip(words: &mut Words<'_>) -> Result<Option<LayerClip>, Reason>
-    ensures { Reads clip_of (left words.old) result (left words.new) }
+    ensures { Reads clip_of words.old result words.new }
 {
     if !words.take("clip") {
         return Ok(None);
@@ -58,14 +54,14 @@ fn read_clip(words: &mut Words<'_>) -> Result<Option<LayerClip>, Reason>
 
 // `[mask N]`
 fn read_mask(words: &mut Words<'_>) -> Result<Option<u32>, Reason>
-    ensures { Reads mask_of (left words.old) result (left words.new) }
+    ensures { Reads mask_of words.old result words.new }
 {
-    words.number32_after("mask")
+    words.number_after("mask")
 }
 
 // All but the filter. The default mode where none is written.
 pub fn read_props(words: &mut Words<'_>) -> Result<LayerProps, Reason>
-    ensures { ReadsWith props_of (λ props. props.opacity) (left words.old) result (left words.new) }
+    ensures { Reads props_of words.old result words.new }
 {
     let blend_mode = read_mode(words)?.unwrap_or(BlendMode::DEFAULT);
     let opacity = read_opacity(words)?;
@@ -81,9 +77,9 @@ pub fn read_props(words: &mut Words<'_>) -> Result<LayerProps, Reason>
 
 // `LEFT TOP RIGHT BOTTOM`
 fn read_padding(words: &mut Words<'_>) -> Result<PaddingU16, Reason>
-    ensures { Reads padding_of (left words.old) result (left words.new) }
+    ensures { Reads padding_of words.old result words.new }
 {
-    let ((left, top), (right, bottom)) = words.pairs16()?;
+    let ((left, top), (right, bottom)) = words.pairs()?;
     Ok(PaddingU16::new(left, top, right, bottom))
 }
 
@@ -93,7 +89,7 @@ fn read_padding_after(
     word: &str,
     missing: Reason,
 ) -> Result<PaddingU16, Reason>
-    ensures { Reads (λ before. behind (following word.now before) padding_of) (left words.old) result (left words.new) }
+    ensures { Reads (λ before. behind (following word.now before) padding_of) words.old result words.new }
 {
     if !words.take(word) {
         return Err(missing);
@@ -103,12 +99,12 @@ fn read_padding_after(
 
 // `[filter N pad L T R B source L T R B]`
 pub fn read_filter(words: &mut Words<'_>) -> Result<Option<FilterData>, Reason>
-    ensures { Reads filter_of (left words.old) result (left words.new) }
+    ensures { Reads filter_of words.old result words.new }
 {
     if !words.take("filter") {
         return Ok(None);
     }
-    let filter = words.number32()?;
+    let filter = words.number()?;
     let filter_padding = read_padding_after(words, "pad", Reason::PadMissing)?;
     let source_padding = read_padding_after(words, "source", Reason::SourceMissing)?;
     Ok(Some(FilterData {
@@ -120,7 +116,7 @@ pub fn read_filter(words: &mut Words<'_>) -> Result<Option<FilterData>, Reason>
 
 // All parts of an opening: what the layer is opened with, and its filter.
 pub fn read_opening(words: &mut Words<'_>) -> Result<(LayerProps, Option<FilterData>), Reason>
-    ensures { Told Opens (left words.old) result (left words.new) }
+    ensures { Reads open_of words.old result words.new }
 {
     let props = read_props(words)?;
     let filter = read_filter(words)?;

@@ -1,5 +1,5 @@
 // Strips, rectangles and tiles.
-ghost use Rattle.text.specs.Readers.{left, Reads};
+ghost use Rattle.text.specs.Readers.{Reads};
 ghost use Rattle.parts.specs.Shapes.{strip_of, rect_of, tile_of};
 
 use draws::strip::Strip;
@@ -10,25 +10,25 @@ use text::words::Words;
 
 // `X Y WIDTH`
 pub fn read_strip(words: &mut Words<'_>) -> Result<Strip, Reason>
-    ensures { Reads strip_of (left words.old) result (left words.new) }
+    ensures { Reads strip_of words.old result words.new }
 {
-    let (x, y) = words.pair16()?;
-    let width = words.number16()?;
+    let (x, y) = words.pair()?;
+    let width = words.number()?;
     Ok(Strip { x, y, width })
 }
 
 // `X0 Y0 X1 Y1`
 pub fn read_rect(words: &mut Words<'_>) -> Result<RectU16, Reason>
-    ensures { Reads rect_of (left words.old) result (left words.new) }
+    ensures { Reads rect_of words.old result words.new }
 {
-    let ((x0, y0), (x1, y1)) = words.pairs16()?;
+    let ((x0, y0), (x1, y1)) = words.pairs()?;
     Ok(RectU16::new(x0, y0, x1, y1))
 }
 
 // `COLUMN ROW`
 pub fn read_tile(words: &mut Words<'_>) -> Result<Tile, Reason>
-    ensures { Reads tile_of (left words.old) result (left words.new) }
+    ensures { Reads tile_of words.old result words.new }
 {
-    let (x, y) = words.pair16()?;
+    let (x, y) = words.pair()?;
     Ok(Tile { x, y })
 }

@@ -1,10 +1,9 @@
 -- Each call keeps what holds of every recorder.
 use Rattle.std.proofs.Common.{◌≡◌, ℕ, zero, suc, ◌+◌, ◌*◌, ◌<◌, ◌≤◌, Bool, true, false, List, [], ◌∷◌, ◌++◌, length, Some, None, Option, sym, refl, ap, ◌∙◌, subst, ⊎_elim, arith, length-append}
-use mathlib.Core.Logic.{∥∥₁_map, ∥∥₁_elim}
+use mathlib.Core.Logic.{∥∥₁_map}
 use denote.Struct.Props.{props}
 use Rattle.std.proofs.lemmas.Bool.{cases_Bool}
 use Rattle.geometry.specs.declared.rect.RectU16.{RectU16}
-use Rattle.geometry.specs.declared.size.SizeU16.{SizeU16}
 use Rattle.geometry.specs.Rect.{zero as nowhere}
 use Rattle.draws.specs.declared.blend.BlendMode.{BlendMode}
 use Rattle.filter.specs.declared.data.FilterData.{FilterData}
@@ -13,17 +12,14 @@ use Rattle.layers.specs.declared.layer.OpenLayer.{OpenLayer}
 use Rattle.layers.specs.declared.layer.RecordedLayer.{RecordedLayer}
 use Rattle.layers.specs.declared.node.Node.{Node}
 use Rattle.layers.specs.declared.props.LayerProps.{LayerProps}
-use Rattle.record.specs.Account.{AccountView, ids, empty_account, account_after_draw, account_after_opening, account_after_closing}
+use Rattle.record.specs.Account.{AccountView, ids, account_after_draw, account_after_opening, account_after_closing}
 use Rattle.layers.specs.Closing.{take_in}
 use Rattle.record.specs.Nesting.{seek, spine, Falls}
-use Rattle.record.specs.Sound.{Counted, Threads, Nests, UnclosedAt, AllUnclosed, UnplacedKind}
+use Rattle.record.specs.Sound.{Threads, Sound, UnclosedAt, AllUnclosed, UnplacedKind}
 use Rattle.record.specs.Table.{same, top, joins, joint, one-if, node, holding, lengthen, hang, with_draw, with_layer}
 use Rattle.layers.specs.Records.{recorded_open, open_kind, recorded_closed}
-use Rattle.record.specs.Tree.{TreeView, empty_tree, tree_after_draw, tree_after_opening, tree_after_closing, with_filter, change_at}
+use Rattle.record.specs.Tree.{TreeView, tree_after_draw, tree_after_opening, tree_after_closing, with_filter, change_at}
 use Rattle.record.proofs.Nestings.{same_self, same-equal, free-none, free_own, seek-self, falls-seek, seek-outer}
-
-abbrev pub Sound : AccountView → TreeView → Type 0
-Sound a t = Counted a t × ∥ Nests a t ∥₁
 
 -- the same at equal views
 pub sound-at : {a b : AccountView} {t u : TreeView} → a ≡ b → t ≡ u → Sound b u → Sound a t
@@ -31,12 +27,6 @@ sound-at {a} {b} {t} {u} e f w =
     let P : AccountView → Type 0 = λ x. Sound x t in
     let Q : TreeView → Type 0 = λ y. Sound b y in
     subst P (sym e) (subst Q (sym f) w)
-
-pub sound_empty : (scene : SizeU16) → Sound (empty_account scene) empty_tree
-sound_empty scene = (
-  (omega arith, refl, omega arith),
-  ∣ record { threads = record { chained = tt; ends = refl; holds = refl; numbered = tt; found = tt; inside = refl; falls = tt }; unclosed = tt } ∣₁,
-)
 
 pub ids-take_in : (b : Option RectU16) (opened : List OpenLayer) → ids (take_in b opened) ≡ ids opened
 ids-take_in b [] = refl
@@ -196,13 +186,13 @@ length-change g i [] = refl
 length-change g zero (x ∷ xs) = refl
 length-change g (suc i) (x ∷ xs) = ap suc (length-change g i xs)
 
-pub sound-draw : (b : Option RectU16) (mode : Option BlendMode) (a : AccountView) (t : TreeView) → Sound a t → Sound (account_after_draw b mode a) (tree_after_draw a.drawn (top (ids a.opened)) t)
-sound-draw b mode a t w =
+pub sound-draw : (b : Option RectU16) (mode : Option BlendMode) (a : AccountView) (t : TreeView) → a.drawn < 1048576 → Sound a t → Sound (account_after_draw b mode a) (tree_after_draw a.drawn (top (ids a.opened)) t)
+sound-draw b mode a t few w =
     let s = ids a.opened in
     let e = ids-take_in b a.opened in
     let n = length-take_in b a.opened in
     let c = count-draw s (length a.opened) a.layers a.drawn t.nodes w.0.0 in (
-      (rw (e, n) c, w.0.1, w.0.2),
+      (rw (e, n) c, w.0.1, w.0.2, w.0.3, omega arith),
       ∥∥₁_map w.1 (λ x. record { threads = rw e (threads-draw s a.drawn a.layers t.nodes x.threads); unclosed = rw e x.unclosed }),
     )
 
@@ -210,15 +200,15 @@ length-filters : (f : Option FilterData) (l : ℕ) (filters : List ℕ) → leng
 length-filters None l filters = omega arith
 length-filters (Some f) l filters = omega (arith, length-append filters (l ∷ []))
 
-pub sound-open : (props : LayerProps) (f : Option FilterData) (d : ℕ) (a : AccountView) (t : TreeView) → Sound a t
+pub sound-open : (props : LayerProps) (f : Option FilterData) (d : ℕ) (a : AccountView) (t : TreeView) → a.layers < 256 → Sound a t
     → Sound (account_after_opening props f a) (tree_after_opening a.layers a.drawn (recorded_open props f d) f (top (ids a.opened)) t)
-sound-open props f d a t w =
+sound-open props f d a t few w =
     let s = ids a.opened in
     let c = count-open s (length a.opened) a.layers a.drawn t.nodes w.0.0 in
     let layer = recorded_open props f d in
     let long = length-append t.layers (layer ∷ []) in
     let more = length-filters f a.layers t.filters in (
-      (c, omega (arith, w.0.1, long), omega (arith, w.0.2, more)),
+      (c, omega (arith, w.0.1, long), omega (arith, w.0.2, more), omega arith, w.0.4),
       ∥∥₁_map w.1 (λ x. record {
         threads = threads-open s a.drawn a.layers t.nodes x.threads;
         unclosed = (subst (UnclosedAt (t.layers ++ (layer ∷ []))) w.0.1 (unclosed-last t.layers layer (refl, open-unplaced f)), all_append t.layers layer s x.unclosed);
@@ -234,7 +224,7 @@ sound-close k o outer a t e w =
     let h : length t.nodes + suc (length outer) ≤ 2 * a.layers + joint t.nodes (top (o.id ∷ s)) = rw e at w.0.0 in
     let c = count-close a.layers (length outer) o.id s t.nodes h in
     let m = length-change (recorded_closed k) o.id t.layers in (
-      (rw (e, i, n) c, m ∙ w.0.1, w.0.2),
+      (rw (e, i, n) c, m ∙ w.0.1, w.0.2, w.0.3, w.0.4),
       ∥∥₁_map w.1 (λ x.
           let y : Threads t.nodes (o.id ∷ s) a.drawn a.layers = rw e at x.threads in
           let u : AllUnclosed t.layers (o.id ∷ s) = rw e at x.unclosed in
@@ -247,16 +237,6 @@ sound-close k o outer a t e w =
 
 -- the innermost open layer by its number
 module _ (id : ℕ) (a : AccountView) (t : TreeView) (e : Some id ≡ top (ids a.opened)) (w : Sound a t) where
-  pub innermost-recorded : id < length t.layers
-  innermost-recorded =
-      ∥∥₁_elim w.1 (hlevel props) (λ x.
-      let f = threads-falls (ids a.opened) a.drawn a.layers t.nodes x.threads in
-      below (ids a.opened) e f)
-    where
-      below : (s : List ℕ) → Some id ≡ top s → Falls a.layers s → id < length t.layers
-      below [] n f = let z : ◌≡◌ {A = ℕ} 0 1 = cc in absurd (omega arith)
-      below (l ∷ s) n f = let same : id ≡ l = cc in omega (arith, same, f.0, w.0.1)
-
   pub sound-leave : (k : ClosedLayer) → Sound (account_after_closing k a) (tree_after_closing id k t)
   sound-leave k = go a.opened refl e
     where

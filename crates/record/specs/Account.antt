@@ -9,11 +9,9 @@ use Rattle.draws.specs.Mode.{default_mode}
 use Rattle.filter.specs.declared.data.FilterData.{FilterData}
 use Rattle.filter.specs.declared.placement.FilterLayerPlacement.{FilterLayerPlacement}
 use Rattle.refusal.specs.Refusals.{Question}
-use Rattle.record.specs.declared.account.Account.{Account}
 use Rattle.layers.specs.declared.layer.OpenLayer.{OpenLayer}
 use Rattle.layers.specs.declared.layer.ClosedLayer.{ClosedLayer}
 use Rattle.layers.specs.declared.props.LayerProps.{LayerProps}
-use Rattle.record.specs.Table.{back}
 use Rattle.layers.specs.Opening.{clip_box}
 use Rattle.layers.specs.Closing.{take_in, pads_within, closing}
 
@@ -29,28 +27,6 @@ pub record AccountView : Type 0 where
   pub deepest : ℕ
   pub largest : Option SizeU16
   pub largest_filter : Option SizeU16
-
--- what a place of the stack holds before its first use
-abbrev pub unopened : OpenLayer
-unopened = record { id = 0; clip = None; filter = None; contents = None }
-
--- the first k places of the stack, innermost first
-abbrev pub open_layers : List OpenLayer → ℕ → List OpenLayer
-open_layers stack k = back unopened stack k
-
--- what an account holds, its stack as a list
-abbrev pub account_of : Account → AccountView
-account_of a = record {
-  scene = a.scene_size;
-  opened = open_layers a.layer_stack a.open_count;
-  drawn = a.draw_count;
-  layers = a.layer_count;
-  root_target = a.root_is_blend_target;
-  blends = a.has_non_default_blend;
-  deepest = a.max_layer_depth;
-  largest = a.largest_layer_size;
-  largest_filter = a.largest_filter_layer_size;
-}
 
 -- the open layers' numbers, innermost first
 abbrev pub ids : List OpenLayer → List ℕ

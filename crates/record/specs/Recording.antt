@@ -10,22 +10,17 @@ use Rattle.layers.specs.declared.layer.OpenLayer.{OpenLayer}
 use Rattle.layers.specs.declared.layer.PoppedLayer.{PoppedLayer}
 use Rattle.layers.specs.declared.layer.PoppedLayer.TheVariants as popped
 use Rattle.layers.specs.declared.props.LayerProps.{LayerProps}
-use Rattle.record.specs.declared.recorder.CommandRecorder.{CommandRecorder}
-use Rattle.record.specs.Account.{AccountView, account_of, ids, empty_account, scene_fits, scene_of, account_after_draw, account_after_opening, account_after_closing, closing_of}
+use Rattle.record.specs.Account.{AccountView, ids, empty_account, scene_fits, scene_of, account_after_draw, account_after_opening, account_after_closing, closing_of}
 use Rattle.layers.specs.Closing.{kind_of}
 use Rattle.layers.specs.Opening.{argument_questions}
 use Rattle.record.specs.Table.{top}
 use Rattle.layers.specs.Records.{recorded_open}
-use Rattle.record.specs.Tree.{TreeView, tree_of, empty_tree, tree_after_draw, tree_after_opening, tree_after_closing}
+use Rattle.record.specs.Tree.{TreeView, empty_tree, tree_after_draw, tree_after_opening, tree_after_closing}
 
 -- what a recorder holds
 pub record Recording : Type 0 where
   pub account : AccountView
   pub tree : TreeView
-
--- what a recorder holds, its tables as lists
-abbrev pub recording : CommandRecorder → Recording
-recording r = record { account = account_of r.account; tree = tree_of r.tree }
 
 -- the innermost open layer
 abbrev pub active : Recording → Option ℕ

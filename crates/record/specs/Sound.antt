@@ -12,12 +12,14 @@ use Rattle.record.specs.Table.{top, joint, span_end, Chained, held, Numbered}
 use Rattle.record.specs.Tree.{TreeView}
 
 -- Each layer adds two nodes at the most, an open one has not had its second yet, and the last node may be the active layer's own.
--- Every layer has a record, and no other number stands among the filter layers.
+-- Every layer has a record, and no other number stands among the filter layers. There are 256 layers and 1,048,576 draws at the most.
 abbrev pub Counted : AccountView → TreeView → Type 0
 Counted a t =
     (length t.nodes + length a.opened ≤ 2 * a.layers + joint t.nodes (top (ids a.opened)))
     × (length t.layers ≡ a.layers)
     × (length t.filters ≤ a.layers)
+    × (a.layers ≤ 256)
+    × (a.drawn ≤ 1048576)
 
 -- a filter layer has a zero placement
 abbrev pub UnplacedKind : RecordedLayerKind → Type 0
@@ -53,3 +55,7 @@ pub record Nests (a : AccountView) (t : TreeView) : Type 0 where
   pub threads : Threads t.nodes (ids a.opened) a.drawn a.layers
   -- an open layer's box and placement are zero
   pub unclosed : AllUnclosed t.layers (ids a.opened)
+
+-- The counts are as they may be, and the nodes nest around the open layers. The nesting goes by cases over lists, and so stands under a truncation.
+abbrev pub Sound : AccountView → TreeView → Type 0
+Sound a t = Counted a t × ∥ Nests a t ∥₁

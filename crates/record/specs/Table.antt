@@ -1,11 +1,7 @@
--- Tables read latest first, and what a draw and an opening make of the table of nodes.
-use Rattle.std.specs.Prelude.{◌≡◌, ℕ, zero, suc, ◌+◌, ◌≤◌, Bool, true, false, cond, List, [], ◌∷◌, Some, None, Option, ◌==◌, slice_index_or}
+-- The table of nodes read latest first, and what a draw and an opening make of the table of nodes.
+use Rattle.std.specs.Prelude.{◌≡◌, ℕ, ◌+◌, ◌≤◌, Bool, true, false, cond, List, [], ◌∷◌, Some, None, Option, nat_eq}
+use Rattle.std.specs.Option.{option_eq}
 use Rattle.layers.specs.declared.node.Node.{Node}
-
--- the first k elements, the latest first
-abbrev pub back : {X : Type 0} → X → List X → ℕ → List X
-back d xs zero = []
-back d xs (suc k) = slice_index_or xs k d ∷ back d xs k
 
 -- draws a..b, then perhaps the layer l, in the list of the layer o
 abbrev pub node : ℕ → ℕ → Option ℕ → Option ℕ → Node
@@ -15,10 +11,6 @@ node a b l o = record { start = a; end = b; layer = l; owner = o }
 abbrev pub blank : Node
 blank = node 0 0 None None
 
--- the nodes, the latest first
-abbrev pub rows : List Node → ℕ → List Node
-rows nodes k = back blank nodes k
-
 -- the first of a list; of the open layers, innermost first, it is the active one
 abbrev pub top : List ℕ → Option ℕ
 top [] = None
@@ -26,10 +18,7 @@ top (l ∷ s) = Some l
 
 -- whether two owners, or two layers, are the same
 abbrev pub same : Option ℕ → Option ℕ → Bool
-same None None = true
-same None (Some b) = false
-same (Some a) None = false
-same (Some a) (Some b) = a == b
+same = option_eq nat_eq
 
 -- b where there is no layer, else false
 abbrev pub free : Option ℕ → Bool → Bool
@@ -89,6 +78,10 @@ lengthen b (x ∷ older) = node x.start b x.layer x.owner ∷ older
 abbrev pub hang : ℕ → List Node → List Node
 hang l [] = []
 hang l (x ∷ older) = node x.start x.end (Some l) x.owner ∷ older
+
+-- the table with a last node that the active layer o's next draw or layer joins: an empty one after n draws, where there is none
+abbrev pub joined : Option ℕ → ℕ → List Node → List Node
+joined o n table = cond (joins table o) table (node n n None o ∷ table)
 
 -- the table after draw n, with the active layer o
 abbrev pub with_draw : ℕ → Option ℕ → List Node → List Node

@@ -1,13 +1,11 @@
 -- The tree of a recording, as plain lists, and what each call makes of it.
-use Rattle.std.specs.Prelude.{ℕ, zero, suc, List, [], ◌∷◌, ◌++◌, take, Some, None, Option}
+use Rattle.std.specs.Prelude.{ℕ, zero, suc, List, [], ◌∷◌, ◌++◌, Some, None, Option}
 use Rattle.filter.specs.declared.data.FilterData.{FilterData}
 use Rattle.layers.specs.declared.layer.ClosedLayer.{ClosedLayer}
 use Rattle.layers.specs.declared.layer.RecordedLayer.{RecordedLayer}
 use Rattle.layers.specs.declared.node.Node.{Node}
-use Rattle.record.specs.declared.tree.LayerTable.{LayerTable}
-use Rattle.record.specs.declared.tree.Tree.{Tree}
 use Rattle.layers.specs.Records.{recorded_closed}
-use Rattle.record.specs.Table.{rows, with_draw, with_layer}
+use Rattle.record.specs.Table.{with_draw, with_layer}
 
 -- what a tree holds
 pub record TreeView : Type 0 where
@@ -17,18 +15,6 @@ pub record TreeView : Type 0 where
   pub layers : List RecordedLayer
   -- the filter layers' numbers, the first opened first
   pub filters : List ℕ
-
--- the records in use
-abbrev pub layers_of : LayerTable → List RecordedLayer
-layers_of t = take t.count t.records
-
--- what a tree holds, its tables as lists
-abbrev pub tree_of : Tree → TreeView
-tree_of t = record {
-  nodes = rows t.nodes t.node_count;
-  layers = layers_of t.layers;
-  filters = take t.filter_count t.filter_layers;
-}
 
 -- nothing recorded
 abbrev pub empty_tree : TreeView
@@ -64,7 +50,3 @@ change_at f (suc n) (x ∷ xs) = x ∷ change_at f n xs
 -- layer l closed, which gave k
 abbrev pub tree_after_closing : ℕ → ClosedLayer → TreeView → TreeView
 tree_after_closing l k t = record { nodes = t.nodes; layers = change_at (recorded_closed k) l t.layers; filters = t.filters }
-
--- the tree with other filter layers
-abbrev pub with_filters : List ℕ → TreeView → TreeView
-with_filters filters t = record { nodes = t.nodes; layers = t.layers; filters = filters }

@@ -3,7 +3,6 @@
 
 pub mod account;
 mod account_calls;
-pub mod owner;
 pub mod read;
 pub mod record;
 pub mod recorder;

@@ -4,7 +4,7 @@ ghost use Rattle.refusal.specs.Refusals.{Answers};
 ghost use Rattle.geometry.specs.Size.{size};
 ghost use Rattle.record.specs.Account.{close_questions};
 ghost use Rattle.record.specs.Pushed.{Pushed};
-ghost use Rattle.record.specs.Recording.{recording, empty_recording, reset_questions, after_reset, draw_questions, open_questions, after_opening, after_closing, innermost_kind};
+ghost use Rattle.record.specs.Recording.{empty_recording, reset_questions, after_reset, draw_questions, open_questions, after_opening, after_closing, innermost_kind};
 
 use crate::account::{Account, MAX_DRAWS, MAX_LAYERS};
 use crate::account_calls::snapped_scene_size;
@@ -20,17 +20,10 @@ use layers::opening::{check_opening, recorded_open};
 use layers::props::LayerProps;
 use refusal::Refusal;
 
-// A draw's box, where it is wanted: with no layer open nobody takes it in.
-fn bbox_if<D: Drawable>(wanted: bool, draw: &D, strips: &[Strip]) -> Option<RectU16>
-    ensures { result ≡ (if wanted then D.box_of draw.now strips.now else None) }
-{
-    if wanted { draw.bbox(strips) } else { None }
-}
-
 impl CommandRecorder {
     // A recorder with nothing recorded and a scene of no size.
     pub fn new() -> CommandRecorder
-        ensures { recording result ≡ empty_recording (size 0 0) }
+        ensures { result ≡ empty_recording (size 0 0) }
     {
         CommandRecorder {
             account: Account::new(),
@@ -40,7 +33,7 @@ impl CommandRecorder {
 
     // Empties the recorder and sets the scene's size, raised to whole tiles.
     pub fn reset(&mut self, width: u16, height: u16) -> Result<(), Refusal>
-        ensures { Answers (reset_questions width height) result (λ _. recording self.new ≡ after_reset width height) (self.new ≡ self.old) }
+        ensures { Answers (reset_questions width height) result (λ _. self.new ≡ after_reset width height) (self.new ≡ self.old) }
     {
         let scene_size = snapped_scene_size(width, height)?;
         self.account.reset(scene_size);
@@ -55,14 +48,20 @@ impl CommandRecorder {
         draws: &mut [D],
         strips: &[Strip],
     ) -> Result<u32, Refusal>
-        ensures { Answers (draw_questions (length draws.old) (recording self.old)) result (λ n. Pushed n draw (D.box_of draw strips.now) (D.mode_of draw) (recording self.old) (recording self.new) draws.old draws.new) ((self.new ≡ self.old) × (draws.new ≡ draws.old)) }
+        ensures { Answers (draw_questions (length draws.old) self.old) result (λ n. Pushed n draw (D.box_of draw strips.now) (D.mode_of draw) self.old self.new draws.old draws.new) ((self.new ≡ self.old) × (draws.new ≡ draws.old)) }
     {
         let number = self.account.draw_count;
+        // By its index, before anything is altered: what a slice's get_mut lends says nothing of the list afterwards.
         if number >= MAX_DRAWS || number as usize >= draws.len() {
             return Err(Refusal::NoPlaceForDraw);
         }
-        let owner = self.account.active_layer();
-        let bbox = bbox_if(self.account.has_layers(), &draw, strips);
+        let owner = self.active_layer();
+        // With no layer open nobody takes the box in.
+        let bbox = if self.has_layers() {
+            draw.bbox(strips)
+        } else {
+            None
+        };
         let mode = draw.blend_mode();
         self.account.record_draw(bbox, mode);
         self.tree.push_draw(number, owner);
@@ -76,7 +75,7 @@ impl CommandRecorder {
         props: LayerProps,
         filter: Option<FilterData>,
     ) -> Result<u32, Refusal>
-        ensures { Answers (open_questions props filter (recording self.old)) result (λ l. (l ≡ (recording self.old).account.layers) × (recording self.new ≡ after_opening props filter (recording self.old))) (self.new ≡ self.old) }
+        ensures { Answers (open_questions props filter self.old) result (λ l. (l ≡ self.old.account.layers) × (self.new ≡ after_opening props filter self.old)) (self.new ≡ self.old) }
     {
         let id = self.account.layer_count;
         if id >= MAX_LAYERS {
@@ -84,8 +83,8 @@ impl CommandRecorder {
         }
         check_opening(&props, filter)?;
         let draws = self.account.draw_count;
-        let owner = self.account.active_layer();
-        let layer = recorded_open(props, filter, self.account.open_count as u32 + 1);
+        let owner = self.active_layer();
+        let layer = recorded_open(props, filter, self.account.open_count() as u32 + 1);
         self.account.open_layer(&props, filter);
         self.tree.open_layer(id, draws, layer, filter, owner);
         Ok(id)
@@ -93,11 +92,9 @@ impl CommandRecorder {
 
     // Closes the active layer, and answers its kind; its parent becomes active.
     pub fn pop_layer(&mut self) -> Result<PoppedLayer, Refusal>
-        ensures { Answers (close_questions (recording self.old).account) result (λ k. (k ≡ innermost_kind (recording self.old).account.opened) × (recording self.new ≡ after_closing (recording self.old))) (self.new ≡ self.old) }
+        ensures { Answers (close_questions self.old.account) result (λ k. (k ≡ innermost_kind self.old.account.opened) × (self.new ≡ after_closing self.old)) (self.new ≡ self.old) }
     {
-        let Some(id) = self.account.active_layer() else {
-            return Err(Refusal::NoLayerOpen);
-        };
+        let id = self.active_layer().ok_or(Refusal::NoLayerOpen)?;
         let closed = self.account.closing()?;
         self.account.leave_layer(&closed);
         self.tree.close_layer(id, &closed);

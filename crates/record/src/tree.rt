@@ -1,30 +1,32 @@
 // The tree: the nodes in the order in which they were made, and the layers in the order in which they were opened.
-ghost use Rattle.std.specs.Prelude.{◌≡◌, ◌≤◌, length};
-
+use arrayvec::ArrayVec;
 use layers::layer::RecordedLayer;
 use layers::node::Node;
+use std::marker::Model;
 
 // Two for each of 256 layers at the most, and one more.
 pub const MAX_NODES: usize = 513;
 
 #[derive(Drop)]
 pub struct LayerTable {
-    pub(crate) records: [RecordedLayer; 256],
-    pub(crate) count: usize,
-    ghost places: { length records ≡ 256 },
-    ghost counted: { count ≤ 256 },
+    pub(crate) records: ArrayVec<RecordedLayer, 256>,
 }
 
 #[derive(Drop)]
 pub struct Tree {
-    pub(crate) nodes: [Node; MAX_NODES],
-    pub(crate) node_count: usize,
+    // One table for all layers, each node with its owner, and no boxes: a recorder needs no heap.
+    pub(crate) nodes: ArrayVec<Node, MAX_NODES>,
     pub(crate) layers: LayerTable,
     // The numbers of the filter layers, in the order in which they were opened.
-    pub(crate) filter_layers: [u32; 256],
-    pub(crate) filter_count: usize,
-    ghost node_places: { length nodes ≡ 513 },
-    ghost node_counted: { node_count ≤ 513 },
-    ghost filter_places: { length filter_layers ≡ 256 },
-    ghost filter_counted: { filter_count ≤ 256 },
+    pub(crate) filter_layers: ArrayVec<u32, 256>,
+}
+
+// Clauses see the nodes latest first.
+impl Model for Tree {
+    ghost use Rattle.std.specs.Prelude.{reverse};
+    ghost use Rattle.record.specs.Tree.{TreeView};
+
+    ghost Value = { TreeView };
+
+    ghost view = { λ t. record { nodes = reverse t.nodes.items; layers = t.layers.records.items; filters = t.filter_layers.items } };
 }

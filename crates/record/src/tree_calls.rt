@@ -1,181 +1,106 @@
 // What each recording call makes of the tree.
-ghost use Rattle.std.specs.Prelude.{◌≡◌, ◌+◌, ◌<◌, false, [], ◌∷◌, ◌++◌, length, Some};
-ghost use Rattle.record.specs.Table.{joins, lengthen, hang, with_layer};
+ghost use Rattle.std.specs.Prelude.{◌≡◌, ◌<◌, false, [], length};
+ghost use Rattle.record.specs.Table.{joins, joined, lengthen, hang};
 ghost use Rattle.layers.specs.Records.{recorded_closed};
-ghost use Rattle.record.specs.Tree.{tree_of, layers_of, empty_tree, with_nodes, tree_after_draw, tree_after_opening, tree_after_closing, change_at, with_filters};
+ghost use Rattle.record.specs.Tree.{empty_tree, with_nodes, tree_after_draw, tree_after_opening, tree_after_closing, change_at};
 
-use crate::owner::same_owner;
-use crate::tree::{LayerTable, MAX_NODES, Tree};
-use draws::blend::BlendMode;
+use crate::tree::{LayerTable, Tree};
+use arrayvec::ArrayVec;
 use filter::data::FilterData;
-use geometry::rect::RectU16;
 use layers::closing::placed_kind;
-use layers::layer::{ClosedLayer, RecordedLayer, RecordedLayerKind};
+use layers::layer::{ClosedLayer, RecordedLayer};
 use layers::node::Node;
-use layers::props::LayerProps;
 
 impl LayerTable {
     fn new() -> LayerTable
-        ensures { layers_of result ≡ [] }
+        ensures { result.records.items ≡ [] }
     {
         LayerTable {
-            records: [RecordedLayer {
-                props: LayerProps {
-                    blend_mode: BlendMode::DEFAULT,
-                    opacity: 1.0,
-                    mask: None,
-                    clip_path: None,
-                },
-                kind: RecordedLayerKind::Regular,
-                depth: 0,
-                bbox: RectU16::ZERO,
-            }; 256],
-            count: 0,
+            records: ArrayVec::new(),
         }
-    }
-
-    fn clear(&mut self)
-        ensures { layers_of self.new ≡ [] }
-    {
-        self.count = 0;
-    }
-
-    fn push(&mut self, layer: RecordedLayer)
-        requires { length (layers_of self.old) < 256 }
-        ensures { layers_of self.new ≡ layers_of self.old ++ (layer ∷ []) }
-    {
-        let id = self.count;
-        self.records[id] = layer;
-        self.count = id + 1;
     }
 
     // Changes the record of the layer that was closed, at its place.
     fn close(&mut self, id: u32, closed: &ClosedLayer)
-        requires { id < length (layers_of self.old) }
-        ensures { layers_of self.new ≡ change_at (recorded_closed closed.now) id (layers_of self.old) }
+        ensures { self.new.records.items ≡ change_at (recorded_closed closed.now) id self.old.records.items }
     {
-        let place = id as usize;
-        let mut layer = self.records[place];
-        layer.kind = placed_kind(layer.kind, closed.placement);
-        layer.bbox = closed.bbox;
-        self.records[place] = layer;
+        if let Some(layer) = self.records.get_mut(id as usize) {
+            layer.kind = placed_kind(layer.kind, closed.placement);
+            layer.bbox = closed.bbox;
+        }
     }
 }
 
+// That there is a place for one more node rests on how many layers are open, which the account knows: so it is asked for, and is no invariant.
 impl Tree {
     pub(crate) fn new() -> Tree
-        ensures { tree_of result ≡ empty_tree }
+        ensures { result ≡ empty_tree }
     {
         Tree {
-            nodes: [Node {
-                start: 0,
-                end: 0,
-                layer: None,
-                owner: None,
-            }; MAX_NODES],
-            node_count: 0,
+            nodes: ArrayVec::new(),
             layers: LayerTable::new(),
-            filter_layers: [0; 256],
-            filter_count: 0,
+            filter_layers: ArrayVec::new(),
         }
     }
 
     pub(crate) fn clear(&mut self)
-        ensures { tree_of self.new ≡ empty_tree }
+        ensures { self.new ≡ empty_tree }
     {
-        self.node_count = 0;
-        self.layers.clear();
-        self.filter_count = 0;
+        self.nodes.clear();
+        self.layers.records.clear();
+        self.filter_layers.clear();
     }
 
     // Whether the table's last node is the owner's, and has no layer.
     fn joins_last(&self, owner: Option<u32>) -> bool
-        ensures { result ≡ joins (tree_of self.now).nodes owner }
+        ensures { result ≡ joins self.now.nodes owner }
     {
-        if self.node_count == 0 {
-            return false;
-        }
-        let last = self.nodes[self.node_count - 1];
-        match last.layer {
-            None => same_owner(last.owner, owner),
-            Some(_) => false,
-        }
+        self.nodes
+            .last()
+            .is_some_and(|last| last.layer.is_none() && last.owner == owner)
     }
 
     // The last node's draws end at `end` from now on.
     fn lengthen_last(&mut self, end: u32)
-        requires { 0 < length (tree_of self.old).nodes }
-        ensures { tree_of self.new ≡ with_nodes (lengthen end (tree_of self.old).nodes) (tree_of self.old) }
+        ensures { self.new ≡ with_nodes (lengthen end self.old.nodes) self.old }
     {
-        let last = self.node_count - 1;
-        let mut node = self.nodes[last];
-        node.end = end;
-        self.nodes[last] = node;
+        if let Some(last) = self.nodes.last_mut() {
+            last.end = end;
+        }
     }
 
     // The last node holds the layer from now on.
     fn hang_last(&mut self, layer: u32)
-        requires { 0 < length (tree_of self.old).nodes }
-        ensures { tree_of self.new ≡ with_nodes (hang layer (tree_of self.old).nodes) (tree_of self.old) }
+        ensures { self.new ≡ with_nodes (hang layer self.old.nodes) self.old }
     {
-        let last = self.node_count - 1;
-        let mut node = self.nodes[last];
-        node.layer = Some(layer);
-        self.nodes[last] = node;
+        if let Some(last) = self.nodes.last_mut() {
+            last.layer = Some(layer);
+        }
     }
 
-    fn push_node(&mut self, node: Node)
-        requires { length (tree_of self.old).nodes < 513 }
-        ensures { tree_of self.new ≡ with_nodes (node ∷ (tree_of self.old).nodes) (tree_of self.old) }
+    // Makes the table's last node one of the owner's without a layer: an empty one after `draws` draws, where it is not one already.
+    fn join_last(&mut self, owner: Option<u32>, draws: u32)
+        requires { joins self.old.nodes owner ≡ false → length self.old.nodes < 513 }
+        ensures { self.new ≡ with_nodes (joined owner draws self.old.nodes) self.old }
     {
-        let count = self.node_count;
-        self.nodes[count] = node;
-        self.node_count = count + 1;
+        if !self.joins_last(owner) {
+            self.nodes.push(Node {
+                start: draws,
+                end: draws,
+                layer: None,
+                owner,
+            });
+        }
     }
 
     // Draw `number` goes to the owner's last node, or to a node of its own.
     pub(crate) fn push_draw(&mut self, number: u32, owner: Option<u32>)
         requires number { number < 1048576 }
-        requires place { joins (tree_of self.old).nodes owner ≡ false → length (tree_of self.old).nodes < 513 }
-        ensures { tree_of self.new ≡ tree_after_draw number owner (tree_of self.old) }
+        requires place { joins self.old.nodes owner ≡ false → length self.old.nodes < 513 }
+        ensures { self.new ≡ tree_after_draw number owner self.old }
     {
-        if self.joins_last(owner) {
-            self.lengthen_last(number + 1);
-        } else {
-            self.push_node(Node {
-                start: number,
-                end: number + 1,
-                layer: None,
-                owner,
-            });
-        }
-    }
-
-    // A layer goes to the owner's last node, or to an empty node of its own after `draws` draws.
-    fn push_layer_node(&mut self, layer: u32, draws: u32, owner: Option<u32>)
-        requires { joins (tree_of self.old).nodes owner ≡ false → length (tree_of self.old).nodes < 513 }
-        ensures { tree_of self.new ≡ with_nodes (with_layer layer draws owner (tree_of self.old).nodes) (tree_of self.old) }
-    {
-        if self.joins_last(owner) {
-            self.hang_last(layer);
-        } else {
-            self.push_node(Node {
-                start: draws,
-                end: draws,
-                layer: Some(layer),
-                owner,
-            });
-        }
-    }
-
-    // The number of a filter layer joins the list of them.
-    fn push_filter(&mut self, layer: u32)
-        requires { length (tree_of self.old).filters < 256 }
-        ensures { tree_of self.new ≡ with_filters ((tree_of self.old).filters ++ (layer ∷ [])) (tree_of self.old) }
-    {
-        let count = self.filter_count;
-        self.filter_layers[count] = layer;
-        self.filter_count = count + 1;
+        self.join_last(owner, number);
+        self.lengthen_last(number + 1);
     }
 
     // Records layer `id`, now open, after `draws` draws.
@@ -187,22 +112,22 @@ impl Tree {
         filter: Option<FilterData>,
         owner: Option<u32>,
     )
-        requires layers { length (tree_of self.old).layers < 256 }
-        requires filters { length (tree_of self.old).filters < 256 }
-        requires place { joins (tree_of self.old).nodes owner ≡ false → length (tree_of self.old).nodes < 513 }
-        ensures { tree_of self.new ≡ tree_after_opening id draws layer filter owner (tree_of self.old) }
+        requires layers { length self.old.layers < 256 }
+        requires filters { length self.old.filters < 256 }
+        requires place { joins self.old.nodes owner ≡ false → length self.old.nodes < 513 }
+        ensures { self.new ≡ tree_after_opening id draws layer filter owner self.old }
     {
-        self.push_layer_node(id, draws, owner);
-        self.layers.push(layer);
+        self.join_last(owner, draws);
+        self.hang_last(id);
+        self.layers.records.push(layer);
         if filter.is_some() {
-            self.push_filter(id);
+            self.filter_layers.push(id);
         }
     }
 
     // Changes the record of the layer that was closed.
     pub(crate) fn close_layer(&mut self, id: u32, closed: &ClosedLayer)
-        requires { id < length (tree_of self.old).layers }
-        ensures { tree_of self.new ≡ tree_after_closing id closed.now (tree_of self.old) }
+        ensures { self.new ≡ tree_after_closing id closed.now self.old }
     {
         self.layers.close(id, closed);
     }

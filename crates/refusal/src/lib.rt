@@ -7,36 +7,37 @@ ghost use Rattle.refusal.specs.Refusals.{number_of, sentence_of};
 #[cfg(test)]
 mod tests;
 
+// A refusal's number is its discriminant.
 #[derive(Clone, Copy, Debug, PartialEq, Eq)]
 pub enum Refusal {
     // A fill that is not empty has a high edge above 65,532.
-    FillPastEdge,
+    FillPastEdge = 1,
     // The scene is not empty and wider or higher than 65,532.
-    ScenePastEdge,
+    ScenePastEdge = 2,
     // 1,048,576 draws are recorded, or the draw list has no place for one more.
-    NoPlaceForDraw,
+    NoPlaceForDraw = 3,
     // 256 layers were recorded since the reset.
-    TooManyLayers,
+    TooManyLayers = 4,
     // The opacity is below 0, above 1, or not a number.
-    OpacityOutOfRange,
+    OpacityOutOfRange = 5,
     // An edge of the clip box is no multiple of 4.
-    ClipOffTile,
+    ClipOffTile = 6,
     // The left or top source padding of the filter is no multiple of 4.
-    ShiftOffTile,
+    ShiftOffTile = 7,
     // There is no layer to close.
-    NoLayerOpen,
+    NoLayerOpen = 8,
     // The contents of the filter layer, with its filter's padding, pass 65,532. The layer stays open.
-    FilterPastEdge,
+    FilterPastEdge = 9,
     // A walk is made only while no layer is open.
-    LayerOpen,
+    LayerOpen = 10,
     // The output list has fewer places than the walk has entries.
-    NoPlaceInList,
+    NoPlaceInList = 11,
     // A tile walk starts at the scene, or at a recorded filter layer.
-    NoSuchSurface,
+    NoSuchSurface = 12,
     // The tile's column or row is above 16,382.
-    TileOutOfRange,
+    TileOutOfRange = 13,
     // The draw list is shorter than the number of recorded draws.
-    DrawsMissing,
+    DrawsMissing = 14,
 }
 
 impl Refusal {
@@ -44,29 +45,14 @@ impl Refusal {
     pub fn number(self) -> u32
         ensures { result ≡ number_of self }
     {
-        match self {
-            Refusal::FillPastEdge => 1,
-            Refusal::ScenePastEdge => 2,
-            Refusal::NoPlaceForDraw => 3,
-            Refusal::TooManyLayers => 4,
-            Refusal::OpacityOutOfRange => 5,
-            Refusal::ClipOffTile => 6,
-            Refusal::ShiftOffTile => 7,
-            Refusal::NoLayerOpen => 8,
-            Refusal::FilterPastEdge => 9,
-            Refusal::LayerOpen => 10,
-            Refusal::NoPlaceInList => 11,
-            Refusal::NoSuchSurface => 12,
-            Refusal::TileOutOfRange => 13,
-            Refusal::DrawsMissing => 14,
-        }
+        self as u32
     }
 
     // The reason in plain words.
     pub fn sentence(self) -> &'static str
         ensures { result.now ≡ sentence_of self }
     {
-        match self {
+        match &self {
             Refusal::FillPastEdge => "a high edge of the fill is above 65532",
             Refusal::ScenePastEdge => "the scene is wider or higher than 65532",
             Refusal::NoPlaceForDraw => "there is no place for one more draw",

@@ -1,5 +1,5 @@
 -- What a reading keeps from line to line.
-use Rattle.std.proofs.Common.{◌≡◌, ℕ, ◌+◌, List, [], ◌∷◌, refl, subst, inl, inr}
+use Rattle.std.proofs.Common.{◌≡◌, ℕ, ◌+◌, List, ◌∷◌, subst, inl, inr}
 use Rattle.script.specs.declared.fault.Unread.{Unread}
 use Rattle.script.specs.declared.fault.Unread.TheVariants.{Faulty, NoMemory}
 use Rattle.calls.specs.Calls.{Draws}
@@ -13,16 +13,10 @@ pub record SoFar {D : Type 0} (draws : Draws D) (lines : List (List ℕ)) (v : V
   pub faults : (k : ℕ) → FirstFault draws v n rest k → FirstFault draws start 0 lines k
 
 module _ {D : Type 0} (draws : Draws D) (lines : List (List ℕ)) where
-  pub so-far-none : SoFar draws lines start 0 lines
-  so-far-none = record { leads = λ w h. h; faults = λ k h. h }
-
   pub so_far_more : (v u : View D) (n : ℕ) (line : List ℕ) (rest more : List (List ℕ)) → rest ≡ line ∷ more → SoFar draws lines v n rest → LineLeads draws v (n + 1) line u → SoFar draws lines u (n + 1) more
   so_far_more v u n line rest more e so one =
       let here : SoFar draws lines v n (line ∷ more) = subst (SoFar draws lines v n) e so in
       record { leads = λ w h. here.leads w (u, one, h); faults = λ k h. here.faults k (inr (u, one, h)) }
-
-  pub so-far-all : (v : View D) (n : ℕ) (rest : List (List ℕ)) → rest ≡ [] → SoFar draws lines v n rest → Leads draws start 0 lines v
-  so-far-all v n rest e so = let here : SoFar draws lines v n [] = subst (SoFar draws lines v n) e so in here.leads v refl
 
   pub stopped-at : (v : View D) (n : ℕ) (line : List ℕ) (rest more : List (List ℕ)) → rest ≡ line ∷ more → SoFar draws lines v n rest → (unread : Unread) → StopsAt draws v (n + 1) line unread → Stopped draws lines unread
   stopped-at v n line rest more e so (Faulty fault) at =

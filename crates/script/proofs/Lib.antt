@@ -1,3 +1,3 @@
-pub mod Counts
 pub mod Faults
 pub mod Follows
+pub mod Firsts

@@ -1,5 +1,5 @@
 -- A sheet as far as its script is read.
-use Rattle.std.specs.Prelude.{ℕ, ◌+◌, Bool, true, false, cond, not, ◌&&◌, List, [], ◌∷◌, ◌++◌, length, is_some, Some, None, vec_items, Option, ◌==◌}
+use Rattle.std.specs.Prelude.{ℕ, Bool, true, false, not, ◌&&◌, List, [], ◌∷◌, ◌++◌, length, is_some, Some, None, vec_items, count_by, Option, ◌==◌}
 use Rattle.draws.specs.declared.strip.Strip.{Strip}
 use Rattle.calls.specs.declared.entry.Entry.{Entry}
 use Rattle.calls.specs.declared.entry.Entry.TheVariants as entry
@@ -40,5 +40,4 @@ added v number (entry.Call call) =
 
 -- how many of the lines draw
 abbrev pub draw_lines : {D : Type 0} → List (Line D) → ℕ
-draw_lines [] = 0
-draw_lines (line ∷ lines) = cond (is_draw line.call) 1 0 + draw_lines lines
+draw_lines lines = count_by (λ line. is_draw line.call) lines

@@ -27,28 +27,20 @@ pub enum Script {
 fn line_kind(bytes: &[u8]) -> Option<Kind>
     ensures { MatchOption result (PassedOver (words_of bytes.now)) (λ kind. IsUtf8 bytes.now → kind ≡ head_kind (words_of bytes.now)) }
 {
-    let Ok(line) = words_of(bytes) else {
-        return Some(Kind::Fill);
-    };
-    let Some((word, mut words)) = line else {
-        return None;
-    };
-    if word != "kind" {
-        return Some(Kind::Fill);
+    match words_of(bytes) {
+        Ok(None) => None,
+        Ok(Some(("kind", mut words))) => Some(read_kind(&mut words).unwrap_or(Kind::Fill)),
+        _ => Some(Kind::Fill),
     }
-    Some(read_kind(&mut words).unwrap_or(Kind::Fill))
 }
 
 // Fills where no line is left that is not passed over.
 fn sheet_kind(bytes: &[u8]) -> Kind
     ensures { GivesKind (lines_of bytes.now) result }
 {
-    for line in Lines::new(bytes) {
-        if let Some(kind) = line_kind(line.bytes) {
-            return kind;
-        }
-    }
-    Kind::Fill
+    Lines::new(bytes)
+        .find_map(|line| line_kind(line.bytes))
+        .unwrap_or(Kind::Fill)
 }
 
 // What a line says, if the lines before it allow that, and its number.
@@ -62,23 +54,22 @@ fn checked_entry<D: DrawLine>(
         return Ok(None);
     };
     sheet.allows(&entry)?;
-    match u32::try_from(line.number) {
-        Ok(number) => Ok(Some((number, entry))),
-        Err(_) => Err(Reason::TooManyLines),
-    }
+    let number = u32::try_from(line.number).map_err(|_| Reason::TooManyLines)?;
+    Ok(Some((number, entry)))
 }
 
 // Adds what a line says to the sheet.
 fn read_line<D: DrawLine>(sheet: &mut Sheet<D>, line: TextLine<'_>) -> Result<(), Unread>
     ensures { MatchResult result (λ _. LineLeads D.Written (view_of sheet.old) line.entry.number line.entry.bytes.now (view_of sheet.new)) (λ unread. StopsAt D.Written (view_of sheet.old) line.entry.number line.entry.bytes.now unread) }
 {
-    match checked_entry(sheet, line) {
-        Ok(Some((number, entry))) => sheet.add(number, entry)?,
-        Ok(None) => {}
-        Err(reason) => {
-            let line = line.number;
-            return Err(Unread::Faulty(Fault { line, reason }));
-        }
+    let faulty = |reason| {
+        Unread::Faulty(Fault {
+            line: line.number,
+            reason,
+        })
+    };
+    if let Some((number, entry)) = checked_entry(sheet, line).map_err(faulty)? {
+        sheet.add(number, entry)?;
     }
     Ok(())
 }

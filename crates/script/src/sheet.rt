@@ -15,6 +15,7 @@ pub struct Line<D> {
     pub call: Call<D>,
 }
 
+// No `Model`: all but one of its fields are public, and the program's contracts read them.
 #[derive(Drop)]
 pub struct Sheet<D> {
     pub strips: Vec<Strip>,
@@ -69,13 +70,6 @@ impl<D> Sheet<D> {
     pub fn draw_lines(&self) -> usize
         ensures { result ≡ draw_lines self.now.lines.items }
     {
-        let lines = self.lines.as_slice();
-        let mut count = 0;
-        for line in lines {
-            if line.call.is_draw() {
-                count += 1;
-            }
-        }
-        count
+        self.lines.iter().filter(|line| line.call.is_draw()).count()
     }
 }

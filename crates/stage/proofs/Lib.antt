@@ -1,3 +1,2 @@
 pub mod Listings
-pub mod Walks
-pub mod Answers
+pub mod Leads

@@ -3,7 +3,6 @@ use crate::shown::Shown;
 use geometry::size::SizeU16;
 use geometry::tile::Tile;
 use layers::layer::PoppedLayer;
-use refusal::Refusal;
 use std::fmt;
 use tiles::surface::Surface;
 use walk::listed::Listed;
@@ -34,18 +33,6 @@ impl fmt::Display for Answer {
     }
 }
 
-// A call that was refused.
-#[derive(Clone, Copy)]
-pub struct Refused(pub Refusal);
-
-impl fmt::Display for Refused {
-    fn fmt<W: fmt::Write>(&self, f: &mut fmt::Formatter<W>) -> fmt::Result {
-        let number = self.0.number();
-        let sentence = self.0.sentence();
-        write!(f, "refused {number} {sentence}")
-    }
-}
-
 // The entries of a walk, after their count.
 #[derive(Clone, Copy)]
 struct Entries<'a>(&'a [Listed]);
@@ -72,15 +59,15 @@ pub enum Walk {
 }
 
 // A walk and what it listed.
-#[derive(Clone, Copy)]
-pub struct Walked<'a> {
+#[derive(Drop)]
+pub struct Walked {
     pub walk: Walk,
-    pub entries: &'a [Listed],
+    pub entries: Vec<Listed>,
 }
 
-impl fmt::Display for Walked<'_> {
+impl fmt::Display for Walked {
     fn fmt<W: fmt::Write>(&self, f: &mut fmt::Formatter<W>) -> fmt::Result {
-        let entries = Entries(self.entries);
+        let entries = Entries(self.entries.as_slice());
         match self.walk {
             Walk::Full => write!(f, "walk {entries}"),
             Walk::Tile { surface, tile } => {

@@ -1,8 +1,8 @@
 // The recording, as `report` prints it.
-ghost use Rattle.std.specs.Prelude.{◌≡◌, not, T, is_nan, to_bits};
-ghost use Rattle.std.specs.Float.{binary32};
+ghost use Rattle.std.specs.Prelude.{◌≡◌, to_bits};
+ghost use Rattle.std.specs.Float.{binary32, NotNan};
 
-use crate::shown::Shown;
+use crate::shown::{OrNone, Shown};
 use filter::data::FilterData;
 use filter::placement::FilterLayerPlacement;
 use geometry::rect::RectU16;
@@ -100,7 +100,7 @@ impl fmt::Display for KindPart {
 
 // The bits of an opacity. A recorded opacity is a number from 0 to 1.
 fn opacity_bits(opacity: f32) -> u32
-    ensures { T (not (is_nan opacity)) → result ≡ to_bits binary32 opacity }
+    ensures { NotNan opacity → result ≡ to_bits binary32 opacity }
 {
     if opacity.is_nan() {
         0
@@ -117,8 +117,8 @@ impl fmt::Display for PropsPart {
     fn fmt<W: fmt::Write>(&self, f: &mut fmt::Formatter<W>) -> fmt::Result {
         let mode = Shown(self.0.blend_mode);
         let opacity = opacity_bits(self.0.opacity);
-        let mask = Shown(self.0.mask);
-        let clip = Shown(self.0.clip_path);
+        let mask = OrNone(self.0.mask);
+        let clip = OrNone(self.0.clip_path.map(Shown));
         write!(f, "mode {mode} opacity {opacity} mask {mask} clip {clip}")
     }
 }
@@ -139,8 +139,8 @@ impl Report<'_> {
         let root = self.recorder.root_is_blend_target();
         let blend = self.recorder.has_non_default_blend();
         let depth = self.recorder.max_layer_depth();
-        let largest = Shown(self.recorder.largest_layer_size());
-        let largest_filter = Shown(self.recorder.largest_filter_layer_size());
+        let largest = OrNone(self.recorder.largest_layer_size().map(Shown));
+        let largest_filter = OrNone(self.recorder.largest_filter_layer_size().map(Shown));
         writeln!(
             f,
             "{line} flags root_is_blend_target={root} has_non_default_blend={blend}"
@@ -188,10 +188,8 @@ impl fmt::Display for Report<'_> {
         self.write_counts(f)?;
         self.write_figures(f)?;
         self.write_lists(f)?;
-        for id in 0..self.recorder.layer_count() {
-            if let Some(layer) = self.recorder.layer(id) {
-                self.write_layer(f, id, &layer)?;
-            }
+        for (id, layer) in (0..self.recorder.layer_count()).zip(self.recorder.layers()) {
+            self.write_layer(f, id, layer)?;
         }
         Ok(())
     }

@@ -1,122 +1,60 @@
 // Makes the calls of a sheet, and prints a line for each.
-ghost use Rattle.std.specs.Prelude.{◌≡◌, None, is_ok, if◌then◌else◌};
 ghost use Rattle.draws.specs.declared.tagged.Tagged.{Tagged};
-ghost use Rattle.ledger.specs.Ledger.{Ledger, noted};
-ghost use Rattle.ledger.specs.Reached.{Reached};
-ghost use Rattle.stage.specs.Calls.{recording_call};
+ghost use Rattle.stage.specs.Calls.{recording_call, Makes};
 
-use crate::answer::{Answer, Found, Hit, Refused, Walk, Walked};
+use crate::answer::{Answer, Hit, Walk, Walked};
 use crate::failure::Failure;
 use crate::report::Report;
+use crate::shown::Shown;
 use crate::stage::Stage;
 use calls::call::Call;
 use calls::draw_line::DrawLine;
+use draws::drawable::Drawable;
 use draws::tagged::Tagged;
-use geometry::tile::Tile;
 use refusal::Refusal;
 use script::script::Script;
 use script::sheet::{Line, Sheet};
 use std::alloc::Global;
+use std::fmt::Display;
 use std::io;
 use std::io::Write;
-use walk::listed::Listed;
 
-fn print_refused<W: Write>(out: &mut W, line: u32, refusal: Refusal) -> io::Result<()> {
-    let refused = Refused(refusal);
-    writeln!(out, "{line} {refused}")
-}
-
-fn print_answer<W: Write>(
+// Prints what a line's call answers, or its refusal, after the line's number.
+fn print<T: Display + Drop, W: Write>(
     out: &mut W,
     line: u32,
-    answer: Result<Answer, Refusal>,
+    answer: Result<T, Refusal>,
 ) -> io::Result<()> {
     match answer {
         Ok(answer) => writeln!(out, "{line} {answer}"),
-        Err(refusal) => print_refused(out, line, refusal),
+        Err(refusal) => {
+            let refused = Shown(refusal);
+            writeln!(out, "{line} {refused}")
+        }
     }
 }
 
-// Makes a recording call. Every ledger that led to the design leads on, with the call noted where it was accepted.
-fn record<D: DrawLine>(
+// Makes a line's call, and prints what it answers. The design goes on by the recording call that the line says, and else it stays.
+fn make<D: DrawLine, W: Write>(
     stage: &mut Stage<'_, D>,
-    call: ledger::call::Call<Tagged<D>>,
-) -> Result<Answer, Refusal>
-    ensures leads { (b : Ledger (Tagged D)) → Reached (λ d strips. D.Drawable.box_of d.draw strips) (λ d. D.Drawable.mode_of d.draw) b stage.old.design → Reached (λ d strips. D.Drawable.box_of d.draw strips) (λ d. D.Drawable.mode_of d.draw) (if is_ok result then noted b call else b) stage.new.design }
-    ensures strips { stage.new.design.strips.now ≡ stage.old.design.strips.now }
-{
-    match call {
-        ledger::call::Call::Reset { width, height } => stage.reset(width, height),
-        ledger::call::Call::Draw(tagged) => stage.draw(tagged.draw, tagged.line),
-        ledger::call::Call::Open { props, filter } => stage.open(props, filter),
-        ledger::call::Call::Close => stage.close(),
-    }
-}
-
-// The recording call of a line, where it is one; a draw carries the line's number.
-fn recording_call<D: DrawLine>(line: &Line<D>) -> Option<ledger::call::Call<Tagged<D>>>
-    ensures { result ≡ recording_call line.now }
-{
-    match &line.call {
-        Call::Reset { width, height } => Some(ledger::call::Call::Reset {
-            width: *width,
-            height: *height,
-        }),
-        Call::Draw(Ok(draw)) => Some(ledger::call::Call::Draw(Tagged {
-            draw: *draw,
-            line: line.number,
-        })),
-        Call::Open { props, filter } => Some(ledger::call::Call::Open {
-            props: *props,
-            filter: *filter,
-        }),
-        Call::Close => Some(ledger::call::Call::Close),
-        _ => None,
-    }
-}
-
-fn print_walk<W: Write>(
-    out: &mut W,
-    line: u32,
-    walk: Walk,
-    walked: Result<Vec<Listed>, Refusal>,
-) -> io::Result<()> {
-    match walked {
-        Ok(entries) => {
-            let entries = entries.as_slice();
-            let walked = Walked { walk, entries };
-            writeln!(out, "{line} {walked}")
-        }
-        Err(refusal) => print_refused(out, line, refusal),
-    }
-}
-
-fn print_hit<W: Write>(
-    out: &mut W,
-    line: u32,
-    tile: Tile,
-    found: Result<Option<Found>, Refusal>,
-) -> io::Result<()> {
-    match found {
-        Ok(found) => {
-            let hit = Hit { tile, found };
-            writeln!(out, "{line} {hit}")
-        }
-        Err(refusal) => print_refused(out, line, refusal),
-    }
-}
-
-// Prints what a line asks of the recording, where it records nothing: a walk, a hit or a report.
-fn ask<D: DrawLine, W: Write>(
-    stage: &Stage<'_, D>,
     line: &Line<D>,
     out: &mut W,
 ) -> Result<(), Failure>
-    requires { recording_call line.now ≡ None }
+    ensures { Makes ⟦<Tagged<D> as Drawable>⟧.box_of ⟦<Tagged<D> as Drawable>⟧.mode_of (recording_call line.now) stage.old.design stage.new.design }
 {
     let number = line.number;
     match &line.call {
-        Call::Walk { room } => print_walk(out, number, Walk::Full, stage.walk(*room)?)?,
+        Call::Reset { width, height } => print(out, number, stage.reset(*width, *height))?,
+        Call::Draw(Ok(draw)) => print(out, number, stage.draw(*draw, number))?,
+        // There is no such draw, so that nothing is recorded.
+        Call::Draw(Err(refusal)) => print::<Answer, W>(out, number, Err(*refusal))?,
+        Call::Open { props, filter } => print(out, number, stage.open(*props, *filter))?,
+        Call::Close => print(out, number, stage.close())?,
+        Call::Walk { room } => {
+            let walk = Walk::Full;
+            let walked = stage.walk(*room)?;
+            print(out, number, walked.map(|entries| Walked { walk, entries }))?;
+        }
         Call::Tile {
             surface,
             tile,
@@ -126,9 +64,14 @@ fn ask<D: DrawLine, W: Write>(
                 surface: *surface,
                 tile: *tile,
             };
-            print_walk(out, number, walk, stage.tile(*surface, *tile, *room)?)?;
+            let walked = stage.tile(*surface, *tile, *room)?;
+            print(out, number, walked.map(|entries| Walked { walk, entries }))?;
         }
-        Call::Hit { tile } => print_hit(out, number, *tile, stage.hit(*tile))?,
+        Call::Hit { tile } => {
+            let tile = *tile;
+            let hit = stage.hit(tile).map(|found| Hit { tile, found });
+            print(out, number, hit)?;
+        }
         Call::Report => {
             let recorder = stage.recorder();
             let report = Report {
@@ -137,22 +80,6 @@ fn ask<D: DrawLine, W: Write>(
             };
             writeln!(out, "{report}")?;
         }
-        // There is no such draw, so that nothing is recorded.
-        Call::Draw(Err(refusal)) => print_refused(out, number, *refusal)?,
-        Call::Reset { .. } | Call::Draw(Ok(_)) | Call::Open { .. } | Call::Close => unreachable!(),
-    }
-    Ok(())
-}
-
-// Makes a line's call, and prints what it answers.
-fn make<D: DrawLine, W: Write>(
-    stage: &mut Stage<'_, D>,
-    line: &Line<D>,
-    out: &mut W,
-) -> Result<(), Failure> {
-    match recording_call(line) {
-        Some(call) => print_answer(out, line.number, record(stage, call))?,
-        None => ask(stage, line, out)?,
     }
     Ok(())
 }

@@ -7,31 +7,42 @@ use geometry::tile::Tile;
 use layers::layer::PoppedLayer;
 use layers::node::Node;
 use layers::props::LayerClip;
+use refusal::Refusal;
 use std::fmt;
 use tiles::surface::Surface;
 use walk::listed::Listed;
 
-// A value of another crate, as this program prints it.
+// A value of another crate, as this program prints it: the lines' format is the program's, and not that crate's own `Display`.
 #[derive(Drop)]
 pub struct Shown<T>(pub T);
+
+// A value that may be absent.
+#[derive(Drop)]
+pub struct OrNone<T>(pub Option<T>);
+
+impl<T: fmt::Display> fmt::Display for OrNone<T> {
+    fn fmt<W: fmt::Write>(&self, f: &mut fmt::Formatter<W>) -> fmt::Result {
+        match &self.0 {
+            Some(value) => write!(f, "{value}"),
+            None => write!(f, "none"),
+        }
+    }
+}
+
+// A call that was refused.
+impl fmt::Display for Shown<Refusal> {
+    fn fmt<W: fmt::Write>(&self, f: &mut fmt::Formatter<W>) -> fmt::Result {
+        let number = self.0.number();
+        let sentence = self.0.sentence();
+        write!(f, "refused {number} {sentence}")
+    }
+}
 
 impl fmt::Display for Shown<SizeU16> {
     fn fmt<W: fmt::Write>(&self, f: &mut fmt::Formatter<W>) -> fmt::Result {
         let width = self.0.width;
         let height = self.0.height;
         write!(f, "{width} {height}")
-    }
-}
-
-impl fmt::Display for Shown<Option<SizeU16>> {
-    fn fmt<W: fmt::Write>(&self, f: &mut fmt::Formatter<W>) -> fmt::Result {
-        match self.0 {
-            Some(size) => {
-                let size = Shown(size);
-                write!(f, "{size}")
-            }
-            None => write!(f, "none"),
-        }
     }
 }
 
@@ -61,25 +72,12 @@ impl fmt::Display for Shown<BlendMode> {
     }
 }
 
-// The number of a mask or of a layer.
-impl fmt::Display for Shown<Option<u32>> {
+impl fmt::Display for Shown<LayerClip> {
     fn fmt<W: fmt::Write>(&self, f: &mut fmt::Formatter<W>) -> fmt::Result {
-        match self.0 {
-            Some(mask) => write!(f, "{mask}"),
-            None => write!(f, "none"),
-        }
-    }
-}
-
-impl fmt::Display for Shown<Option<LayerClip>> {
-    fn fmt<W: fmt::Write>(&self, f: &mut fmt::Formatter<W>) -> fmt::Result {
-        let Some(clip) = self.0 else {
-            return write!(f, "none");
-        };
-        let bbox = Shown(clip.bbox);
-        let start = clip.strip_range.start;
-        let end = clip.strip_range.end;
-        let thread = clip.thread_idx;
+        let bbox = Shown(self.0.bbox);
+        let start = self.0.strip_range.start;
+        let end = self.0.strip_range.end;
+        let thread = self.0.thread_idx;
         write!(f, "{bbox} path {start} {end} {thread}")
     }
 }

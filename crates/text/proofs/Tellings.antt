@@ -1,9 +1,6 @@
 -- What words say, and that it is all that they say.
-use Rattle.std.proofs.Common.{◌≡◌, ℕ, Some, None, Option, sym, refl, ap, ◌∙◌, arith}
-use Rattle.text.specs.Readers.{Line, Read, By, Making, Sole, Mute}
-
-pub none≢some : {A : Type 0} {x : Option A} {a : A} → x ≡ None → x ≡ Some a → ⊥
-none≢some p q = let z : ◌≡◌ {A = ℕ} 0 1 = cc in omega arith
+use Rattle.std.proofs.Common.{◌≡◌, Some, None, sym, refl, ap, ◌∙◌}
+use Rattle.text.specs.Readers.{Line, Read, By, Making, Sole}
 
 pub some_same : {A : Type 0} {a b : A} → Some a ≡ Some b → a ≡ b
 some_same e = cc
@@ -20,6 +17,3 @@ module _ {A : Type 0} (reader : Line → Read A) (before : Line) where
 module _ {A B : Type 0} (says : Line → A → Line → Type 0) (make : A → B) (before : Line) where
   pub sole-making : (a : A) (after : Line) → Sole says before a after → Sole (Making says make) before (make a) after
   sole-making a after (is, sole) = ((a, is, refl), λ b rest made. sole made.0 rest made.1)
-
-  pub mute-making : Mute says before → Mute (Making says make) before
-  mute-making mute b rest made = mute made.0 rest made.1

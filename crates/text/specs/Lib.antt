@@ -1,5 +1,6 @@
 pub mod Lines
 pub mod Numbers
+pub mod Parses
 pub mod Readers
 pub mod Sentences
 pub mod Words

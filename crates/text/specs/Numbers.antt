@@ -1,19 +1,11 @@
 -- Numbers in decimal digits.
-use Rattle.std.specs.Prelude.{ℕ, ◌+◌, ◌-◌, ◌*◌, ◌<◌, Bool, ◌&&◌, List, [], ◌∷◌, length, nat_lt, slice_index}
-use Rattle.std.specs.Int.{IsInRange}
-use Rattle.std.specs.Str.{all_ascii_digits}
+use Rattle.std.specs.Prelude.{ℕ, ◌+◌, ◌-◌, ◌*◌, Bool, ◌&&◌, not, List, [], ◌∷◌, length, ◌==◌}
+use Rattle.std.specs.Char.{is_ascii_digit}
+use Rattle.std.specs.List.{list_all}
 
--- each byte of the word is one of the digits 0 to 9
-abbrev pub Digits : List ℕ → Type 0
-Digits word = (i : ℕ) → i < length word → IsInRange 48 57 (slice_index word i)
-
--- one digit or more, and nothing else
-abbrev pub Numeral : List ℕ → Type 0
-Numeral word = (0 < length word) × Digits word
-
--- the same as a test
+-- whether a word is one digit or more, and nothing else
 abbrev pub numeral : List ℕ → Bool
-numeral word = nat_lt 0 (length word) && all_ascii_digits word
+numeral word = not (length word == 0) && list_all is_ascii_digit word
 
 -- the number that the digits write after those of n
 abbrev pub value_after : ℕ → List ℕ → ℕ

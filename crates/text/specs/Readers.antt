@@ -1,5 +1,5 @@
 -- What the words of a line are read as. A reader takes words from the front, and leaves those that follow.
-use Rattle.std.specs.Prelude.{◌≡◌, ℕ, cond, ◌&&◌, List, [], ◌∷◌, Some, None, Option, Result, MatchResult, nat_le}
+use Rattle.std.specs.Prelude.{◌≡◌, ℕ, true, false, cond, ◌&&◌, List, [], ◌∷◌, Some, None, Option, Result, MatchResult, nat_le}
 use Rattle.std.specs.Str.{bytes_eq}
 use Rattle.text.specs.declared.words.Words.{Words}
 use Rattle.text.specs.Numbers.{numeral, value_of}
@@ -20,9 +20,10 @@ abbrev pub and_then : {A B : Type 0} → Read A → (A → Line → Read B) → 
 and_then None next = None
 and_then (Some p) next = next p.0 p.1
 
--- the answer is what the reader gives, and the words after it are those that it leaves
-abbrev pub Reads : {A E : Type 0} → (Line → Read A) → Line → Result A E → Line → Type 0
-Reads reader before r after = MatchResult r (λ a. reader before ≡ Some (a, after)) (λ _. reader before ≡ None)
+-- the answer is what the reader gives for the words before, and those after are the words that it leaves
+abbrev pub Reads : {A E : Type 0} → (Line → Read A) → Words → Result A E → Words → Type 0
+Reads reader before r after =
+    MatchResult r (λ a. reader (left before) ≡ Some (a, left after)) (λ _. reader (left before) ≡ None)
 
 -- a number of at most `most`
 abbrev pub number_up_to : ℕ → Line → Read ℕ
@@ -37,6 +38,13 @@ edge_of words = number_up_to 65535 words
 
 abbrev pub count_of : Line → Read ℕ
 count_of words = number_up_to 4294967295 words
+
+-- A reader takes a word in digits alone as another, `gives`, reads it, and no other word. So much is known of the
+-- numbers of any type.
+pub record ReadsNumerals {A E : Type 0} (gives : List ℕ → Result A E → Type 0) (reader : Line → Read A) : Type 0 where
+  pub none : reader [] ≡ None
+  pub other : (word : List ℕ) (words : Line) → numeral word ≡ false → reader (word ∷ words) ≡ None
+  pub given : (word : List ℕ) (words : Line) (r : Result A E) → numeral word ≡ true → gives word r → MatchResult r (λ n. reader (word ∷ words) ≡ Some (n, words)) (λ _. reader (word ∷ words) ≡ None)
 
 -- one and then another
 abbrev pub both : {A B : Type 0} → (Line → Read A) → (Line → Read B) → Line → Read (A × B)
@@ -88,5 +96,5 @@ abbrev pub Mute : {A : Type 0} → (Line → A → Line → Type 0) → Line →
 Mute {A = A} says before = (b : A) (rest : Line) → says before b rest → ⊥
 
 -- the answer is what the words before say, and those after are left; or there is none, and they say nothing
-abbrev pub Told : {A E : Type 0} → (Line → A → Line → Type 0) → Line → Result A E → Line → Type 0
-Told says before r after = MatchResult r (λ a. Sole says before a after) (λ _. Mute says before)
+abbrev pub Told : {A E : Type 0} → (Line → A → Line → Type 0) → Words → Result A E → Words → Type 0
+Told says before r after = MatchResult r (λ a. Sole says (left before) a (left after)) (λ _. Mute says (left before))

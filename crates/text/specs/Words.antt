@@ -1,19 +1,15 @@
 -- The words of a line.
-use Rattle.std.specs.Prelude.{ℕ, Bool, cond, ◌||◌, List, [], ◌∷◌, ◌++◌, ◌==◌}
+use Rattle.std.specs.Prelude.{ℕ, Bool, not, ◌||◌, List, length, filter, ◌==◌}
+use Rattle.std.specs.List.{slice_split}
 
 -- a space or a tab
 abbrev pub blank : ℕ → Bool
 blank c = c == 32 || c == 9
 
--- one word more, if it has a byte
-abbrev pub ended : List ℕ → List (List ℕ) → List (List ℕ)
-ended [] words = words
-ended (c ∷ cs) words = (c ∷ cs) ∷ words
+-- whether a part of a line is a word, which has a byte
+abbrev pub written : List ℕ → Bool
+written part = not (length part == 0)
 
--- the words of a line that begins with the bytes `word`, none of them blank, and then goes on
-abbrev pub words_after : List ℕ → List ℕ → List (List ℕ)
-words_after word [] = ended word []
-words_after word (c ∷ cs) = cond (blank c) (ended word (words_after [] cs)) (words_after (word ++ c ∷ []) cs)
-
+-- what stands between blanks
 abbrev pub words_of : List ℕ → List (List ℕ)
-words_of line = words_after [] line
+words_of line = filter written (slice_split blank line)

@@ -2,6 +2,6 @@
 #![tactic(auto)]
 
 pub mod lines;
-mod numbers;
+pub mod numbers;
 pub mod reason;
 pub mod words;

@@ -1,6 +1,7 @@
 // The lines of a script, as bytes.
-ghost use Rattle.std.specs.Prelude.{◌≡◌, ℕ, ◌+◌, ◌^◌, ◌<◌, ◌≤◌, [], ◌∷◌, length, MatchOption, ◌≢◌, slice_index};
-ghost use Rattle.text.specs.Lines.{without_return, lines_of};
+ghost use Rattle.std.specs.Prelude.{◌≡◌, ◌+◌, ◌^◌, ◌<◌, [], ◌∷◌, length, MatchOption};
+ghost use Rattle.std.specs.Str.Lines.{strip_carriage_return};
+ghost use Rattle.text.specs.Lines.{lines_of};
 ghost use Rattle.std.specs.Iterator.{at_most};
 
 // A line without the LF or CR LF that ends it, and its number, counted from 1.
@@ -10,7 +11,8 @@ pub struct TextLine<'a> {
     pub bytes: &'a [u8],
 }
 
-// What is left of a script, and how many lines were taken from it.
+// What is left of a script, and how many lines were taken from it. They are counted here, and not by a `zip` of each
+// reader, since a line and its number are named together in every fault.
 #[derive(Clone, Copy)]
 pub struct Lines<'a> {
     rest: &'a [u8],
@@ -29,23 +31,9 @@ impl<'a> Lines<'a> {
     }
 }
 
-// How many bytes stand before the first LF; all of them where there is none.
-fn line_len(bytes: &[u8]) -> usize
-    ensures within { result ≤ length bytes.now }
-    ensures before { (i : ℕ) → i < result → slice_index bytes.now i ≢ 10 }
-    ensures found { result < length bytes.now → slice_index bytes.now result ≡ 10 }
-{
-    for (i, byte) in bytes.iter().enumerate() {
-        if *byte == b'\n' {
-            return i;
-        }
-    }
-    bytes.len()
-}
-
 // A CR belongs to the line's end only where an LF follows it.
 fn without_return(line: &[u8]) -> &[u8]
-    ensures { result.now ≡ without_return line.now }
+    ensures { result.now ≡ strip_carriage_return line.now }
 {
     match line {
         [front @ .., b'\r'] => front,
@@ -58,10 +46,9 @@ fn cut_line(bytes: &[u8]) -> (&[u8], &[u8])
     ensures lines { 0 < length bytes.now → lines_of bytes.now ≡ result.0.now ∷ lines_of result.1.now }
     ensures shorter { 0 < length bytes.now → length result.1.now < length bytes.now }
 {
-    let (line, after) = bytes.split_at(line_len(bytes));
-    match after.split_first() {
-        Some((_, rest)) => (without_return(line), rest),
-        None => (line, after),
+    match bytes.iter().position(|byte| *byte == b'\n') {
+        Some(len) => (without_return(&bytes[..len]), &bytes[len + 1..]),
+        None => (bytes, &[]),
     }
 }
 

@@ -1,9 +1,10 @@
 // The words of a line.
-ghost use Rattle.std.specs.Prelude.{◌≡◌, ◌<◌, ◌≤◌, false, [], ◌∷◌, length, IfOk, Some, None, MatchBool, MatchOption, MatchResult, ◌≢◌, slice_index};
-ghost use Rattle.text.specs.Readers.{left, Reads, number_up_to, byte_of, edge_of, count_of, pair_of, range_of, edges_of, following, optional};
-ghost use Rattle.text.specs.Words.{blank, ended, words_of};
+ghost use Rattle.std.specs.Prelude.{◌≡◌, ◌<◌, false, [], ◌∷◌, length, filter, Some, None, MatchBool, MatchOption, MatchResult, ◌≢◌, slice_index};
+ghost use Rattle.std.specs.List.{slice_split};
+ghost use Rattle.text.specs.Readers.{left, Reads, both, following, optional};
+ghost use Rattle.text.specs.Words.{blank, written, words_of};
 
-use crate::numbers::read_number;
+use crate::numbers::{Number, read_number};
 use crate::reason::Reason;
 
 // Words are separated by these and nothing else.
@@ -19,16 +20,13 @@ fn skip_blanks(text: &str) -> &str
 
 // The text up to its first blank, and what follows that blank.
 fn cut_word(text: &str) -> (&str, &str)
-    ensures words { words_of text.now ≡ ended result.0.now (words_of result.1.now) }
+    ensures words { words_of text.now ≡ filter written (result.0.now ∷ slice_split blank result.1.now) }
     ensures some { 0 < length text.now → blank (slice_index text.now 0) ≡ false → 0 < length result.0.now }
 {
-    match text.split_once(BLANKS) {
-        Some((word, rest)) => (word, rest),
-        None => (text, ""),
-    }
+    text.split_once(BLANKS).unwrap_or((text, ""))
 }
 
-// What is left of a line.
+// What is left of a line. It has no `Model`: that would take `Copy` from it, and a look-ahead is a copy.
 #[derive(Clone, Copy)]
 pub struct Words<'a> {
     rest: &'a str,
@@ -55,14 +53,11 @@ impl<'a> Words<'a> {
         ensures { MatchBool result (following word.now (left self.old) ≡ Some (left self.new)) ((following word.now (left self.old) ≡ None) × (left self.new ≡ left self.old)) }
     {
         let mut ahead = *self;
-        let Some(next) = ahead.next_word() else {
-            return false;
-        };
-        if next != word {
-            return false;
+        let stands = ahead.next_word() == Some(word);
+        if stands {
+            *self = ahead;
         }
-        *self = ahead;
-        true
+        stands
     }
 
     // Nothing may follow.
@@ -75,71 +70,38 @@ impl<'a> Words<'a> {
         }
     }
 
-    // The next word as a number of at most `most`.
-    fn number(&mut self, most: u32) -> Result<u32, Reason>
-        ensures bound { IfOk result (λ n. n ≤ most) }
-        ensures reads { Reads (number_up_to most) (left self.old) result (left self.new) }
+    // The next word as a number.
+    pub fn number<N: Number>(&mut self) -> Result<N, Reason>
+        ensures { Reads N.reader self.old result self.new }
     {
-        match self.next_word() {
-            Some(word) => read_number(word, most),
-            None => Err(Reason::NumberMissing),
-        }
+        read_number(self.next_word().ok_or(Reason::NumberMissing)?)
     }
 
-    pub fn number8(&mut self) -> Result<u8, Reason>
-        ensures { Reads byte_of (left self.old) result (left self.new) }
+    // The next two words as numbers.
+    pub fn pair<N: Number>(&mut self) -> Result<(N, N), Reason>
+        ensures { Reads (both N.reader N.reader) self.old result self.new }
     {
-        let number = self.number(255)?;
-        Ok(number as u8)
-    }
-
-    pub fn number16(&mut self) -> Result<u16, Reason>
-        ensures { Reads edge_of (left self.old) result (left self.new) }
-    {
-        let number = self.number(65_535)?;
-        Ok(number as u16)
-    }
-
-    pub fn number32(&mut self) -> Result<u32, Reason>
-        ensures { Reads count_of (left self.old) result (left self.new) }
-    {
-        self.number(u32::MAX)
-    }
-
-    // The next two words as numbers of 16 bits.
-    pub fn pair16(&mut self) -> Result<(u16, u16), Reason>
-        ensures { Reads pair_of (left self.old) result (left self.new) }
-    {
-        let first = self.number16()?;
-        let second = self.number16()?;
+        let first = self.number()?;
+        let second = self.number()?;
         Ok((first, second))
     }
 
-    // The next two words as numbers of 32 bits.
-    pub fn pair32(&mut self) -> Result<(u32, u32), Reason>
-        ensures { Reads range_of (left self.old) result (left self.new) }
+    // The next four words as numbers, two and two.
+    pub fn pairs<N: Number>(&mut self) -> Result<((N, N), (N, N)), Reason>
+        ensures { Reads (both (both N.reader N.reader) (both N.reader N.reader)) self.old result self.new }
     {
-        let first = self.number32()?;
-        let second = self.number32()?;
-        Ok((first, second))
-    }
-
-    // The next four words as numbers of 16 bits, two and two.
-    pub fn pairs16(&mut self) -> Result<((u16, u16), (u16, u16)), Reason>
-        ensures { Reads edges_of (left self.old) result (left self.new) }
-    {
-        let first = self.pair16()?;
-        let second = self.pair16()?;
+        let first = self.pair()?;
+        let second = self.pair()?;
         Ok((first, second))
     }
 
     // The number after `word`, where that stands here.
-    pub fn number32_after(&mut self, word: &str) -> Result<Option<u32>, Reason>
-        ensures { Reads (optional word.now count_of) (left self.old) result (left self.new) }
+    pub fn number_after<N: Number>(&mut self, word: &str) -> Result<Option<N>, Reason>
+        ensures { Reads (optional word.now N.reader) self.old result self.new }
     {
         if !self.take(word) {
             return Ok(None);
         }
-        Ok(Some(self.number32()?))
+        Ok(Some(self.number()?))
     }
 }

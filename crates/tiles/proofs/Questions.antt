@@ -1,5 +1,5 @@
 -- The questions of a call.
-use Rattle.std.proofs.Common.{◌≡◌, ℕ, true, false, cond, List, [], ◌∷◌, ◌++◌, Some, None, sym, refl, ap, ◌∙◌, ⊎_elim, arith}
+use Rattle.std.proofs.Common.{◌≡◌, true, false, List, [], ◌∷◌, ◌++◌, None, refl, ⊎_elim}
 use Rattle.std.proofs.lemmas.Bool.{cases_Bool}
 use Rattle.refusal.specs.Refusals.{Question, first_no}
 
@@ -8,5 +8,5 @@ pub all_yes : (first others : List Question) → first_no first ≡ None → fir
 all_yes [] others h = refl
 all_yes (q ∷ first) others h =
     ⊎_elim (λ (e : q.0 ≡ true). rw e (all_yes first others (rw e at h)))
-    (λ (e : q.0 ≡ false). let z : ◌≡◌ {A = ℕ} 0 1 = (let n = ap (λ b. cond b (first_no first) (Some q.1)) (sym e) ∙ h in cc) in absurd (omega arith))
+    (λ (e : q.0 ≡ false). let n = rw e at h in cc)
     (cases_Bool q.0)

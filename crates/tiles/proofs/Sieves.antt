@@ -8,7 +8,7 @@ use Rattle.tiles.specs.declared.showing.Showing.TheVariants.{Through, Placed, Hi
 use Rattle.tiles.specs.Tile.{sift, drawing, entering, deeper}
 use Rattle.tiles.specs.TileSteps.{picked, Blind, Sieved}
 use Rattle.walk.specs.Walk.{spanned}
-use Rattle.tiles.proofs.Stretches.{around}
+use Rattle.walk.proofs.Walks.{around}
 
 pub blind-none : Blind []
 blind-none seen shows out k rest = refl
@@ -28,11 +28,18 @@ length-drawing true n = omega arith
 length-drawing false n = omega arith
 
 -- one draw more
-pub picked_more : (seen : ℕ → Bool) (a n : ℕ) → a ≤ n → picked seen a (n + 1 - a) ≡ picked seen a (n - a) ++ drawing (seen n) n
-picked_more seen a n h =
-    let one : n + 1 - a ≡ suc (n - a) = omega arith in
-    let at : a + (n - a) ≡ n = omega arith in
-    rw (one, at)
+module _ (seen : ℕ → Bool) (a n : ℕ) (h : a ≤ n) where
+  picked_more : picked seen a (n + 1 - a) ≡ picked seen a (n - a) ++ drawing (seen n) n
+  picked_more =
+      let one : n + 1 - a ≡ suc (n - a) = omega arith in
+      let at : a + (n - a) ≡ n = omega arith in
+      rw (one, at)
+
+  pub picked_shown : seen n ≡ true → picked seen a (n + 1 - a) ≡ picked seen a (n - a) ++ (Draw n ∷ [])
+  picked_shown e = picked_more ∙ ap (λ z. picked seen a (n - a) ++ drawing z n) e
+
+  pub picked_hidden : seen n ≡ false → picked seen a (n + 1 - a) ≡ picked seen a (n - a)
+  picked_hidden e = picked_more ∙ ap (λ z. picked seen a (n - a) ++ drawing z n) e ∙ append-nil (picked seen a (n - a))
 
 pub length-picked : (seen : ℕ → Bool) (a k : ℕ) → length (picked seen a k) ≤ k
 length-picked seen a zero = omega arith

@@ -1,22 +1,31 @@
 -- Where a surface's entries stand among those of the full walk.
-use Rattle.std.proofs.Common.{◌≡◌, ℕ, zero, suc, ◌+◌, ◌-◌, ◌<◌, ◌≤◌, true, false, cond, eqb, List, [], ◌∷◌, ◌++◌, reverse, length, get_or, drop, Some, None, Option, sym, refl, ap, ◌∙◌, subst, ⊎_elim, append_assoc, arith}
+use Rattle.std.proofs.Common.{◌≡◌, ℕ, zero, suc, ◌+◌, ◌-◌, ◌<◌, ◌≤◌, Bool, true, false, cond, eqb, ltb, List, [], ◌∷◌, ◌++◌, reverse, length, drop, Some, None, Option, sym, refl, ap, ◌∙◌, subst, ⊎_elim, append_assoc, arith}
 use mathlib.Core.List.{reverse-cons}
-use Rattle.std.proofs.lemmas.List.{append-nil, drop_more}
-use Rattle.std.proofs.lemmas.Bool.{eq-eqb, ne_eqb, cases_eq, cases_lt, cond_both}
+use mathlib.Core.Logic.{∥∥₁_elim}
+use base.Stored.{Coded-set, coded_list}
+use Rattle.record.specs.Recording.{Recording}
+use Rattle.record.specs.Sound.{Sound}
+use Rattle.walk.specs.contracts.listed.Listed.{the_row}
+use Rattle.walk.specs.FullWalk.{listed, entry_count}
+use Rattle.std.specs.List.{after_first, position, position_or_len}
+use Rattle.std.proofs.lemmas.List.{append-nil, drop_all}
+use Rattle.std.proofs.lemmas.Bool.{eq-eqb, ne_eqb, lt-ltb, cases_Bool, cases_eq, cases_lt, cond_both}
+use Rattle.std.proofs.lemmas.Option.{cond_some}
+use Rattle.geometry.specs.declared.tile.Tile.{Tile}
 use Rattle.layers.specs.declared.layer.RecordedLayer.{RecordedLayer}
 use Rattle.layers.specs.declared.node.Node.{Node}
 use Rattle.record.specs.Nesting.{pushed, seek, spine, Found}
-use Rattle.record.specs.Table.{blank, same, held, holding, NumberedIs, Numbered}
+use Rattle.record.specs.Table.{same, held, holding, NumberedIs, Numbered}
 use Rattle.walk.specs.declared.listed.Listed.{Listed}
 use Rattle.walk.specs.declared.listed.Listed.TheVariants.{Draw, Enter, Leave, Filter}
 use Rattle.tiles.specs.declared.surface.Surface.{Surface}
 use Rattle.tiles.specs.declared.surface.Surface.TheVariants.{Scene, Layer}
-use Rattle.tiles.specs.Tile.{after, until, inside, filter_at, is_surface}
-use Rattle.tiles.specs.TileSteps.{owner_of, past_holder, start_of, Lacks, Stretch}
-use Rattle.walk.specs.Walk.{walk, leaves, spanned, entered, starts}
+use Rattle.tiles.specs.Tile.{after, until, inside, layer_shows, tile_listed, filter_at, is_surface}
+use Rattle.tiles.proofs.Sieves.{length-sift}
+use Rattle.tiles.specs.TileSteps.{owner_of, past_holder, nodes_of, Lacks, Clear}
+use Rattle.walk.specs.Walk.{walk, leaves, spanned, entered, starts, room, Stretch}
 use Rattle.walk.proofs.Counts.{lines, walk-reverse}
-use Rattle.tiles.proofs.Stretches.{walk_from, leave}
-use Rattle.walk.proofs.Walks.{walk-done}
+use Rattle.walk.proofs.Walks.{walk_from, leave, walk-done}
 
 -- the entries do not enter layer l
 abbrev Unentered : ℕ → List Listed → Type 0
@@ -116,29 +125,51 @@ holder-at l [] w f h = absurd (omega arith)
 holder-at l (x ∷ older) w f h = holder-from x older l w f h (holder-at l older w.1 f.1) x.layer refl
 
 -- the nodes past the one that holds layer l
-past-holder : (l : ℕ) (xs : List Node) (x : Node) (ys : List Node) → Lacks l xs → same x.layer (Some l) ≡ true → drop (past_holder l (xs ++ (x ∷ ys))) (xs ++ (x ∷ ys)) ≡ ys
-past-holder l [] x ys w e = rw e refl
+past-holder : (l : ℕ) (xs : List Node) (x : Node) (ys : List Node) → Lacks l xs → same x.layer (Some l) ≡ true → past_holder l (xs ++ (x ∷ ys)) ≡ ys
+past-holder l [] x ys w e = rw e
 past-holder l (y ∷ xs) x ys w e = rw w.0 (past-holder l xs x ys w.1 e)
 
-pub past-here : (l : ℕ) (ns : List Node) (i : ℕ) → i < length ns → same (get_or ns i blank).layer (Some l) ≡ true → past_holder l (drop i ns) ≡ 1
-past-here l ns i h e = ap (past_holder l) (drop_more ns i blank h) ∙ rw e refl
+-- they stand after the place of the first that holds layer l
+module _ (l : ℕ) where
+  past-after : (ns : List Node) → past_holder l ns ≡ after_first (λ x. same x.layer (Some l)) ns
+  past-after [] = refl
+  past-after (x ∷ ns) =
+      let k = position_or_len (λ (x : Node). same x.layer (Some l)) ns in
+      let e : suc (k + 1) ≡ (1 + k) + 1 = omega arith in
+      ⊎_elim (λ (e : same x.layer (Some l) ≡ true). rw e) (λ (f : same x.layer (Some l) ≡ false). rw f (past-after ns ∙ ap (λ z. drop z (x ∷ ns)) e)) (cases_Bool (same x.layer (Some l)))
 
-pub past_next : (l : ℕ) (ns : List Node) (i : ℕ) → i < length ns → same (get_or ns i blank).layer (Some l) ≡ false → past_holder l (drop i ns) ≡ 1 + past_holder l (drop (i + 1) ns)
-past_next l ns i h e = let one : past_holder l (drop i ns) ≡ suc (past_holder l (drop (i + 1) ns)) = ap (past_holder l) (drop_more ns i blank h) ∙ rw e refl in omega arith
+  pub past_some : (ns : List Node) (i : ℕ) → Some i ≡ position (λ x. same x.layer (Some l)) ns → drop (i + 1) ns ≡ past_holder l ns
+  past_some ns i e =
+      let k = position_or_len (λ (x : Node). same x.layer (Some l)) ns in
+      ap (λ z. drop (z + 1) ns) (sym (cond_some (ltb k (length ns)) k i (sym e)).1) ∙ sym (past-after ns)
 
-past-within : (l : ℕ) (ns : List Node) → past_holder l ns ≤ length ns
-past-within l [] = omega arith
-past-within l (x ∷ ns) = cond_both (same x.layer (Some l)) 1 (suc (past_holder l ns)) (λ n. n ≤ length (x ∷ ns)) (λ _. omega arith) (λ _. omega (arith, past-within l ns))
+  pub past_none : (ns : List Node) → None ≡ position (λ x. same x.layer (Some l)) ns → [] ≡ past_holder l ns
+  past_none ns e =
+      let k = position_or_len (λ (x : Node). same x.layer (Some l)) ns in
+      ⊎_elim (λ (h : k < length ns). let t = lt-ltb k (length ns) h in let is : None ≡ Some k = rw t at e in cc) (λ (h : length ns ≤ k). sym (past-after ns ∙ drop_all (k + 1) ns (omega arith))) (cases_lt k (length ns))
 
-pub start-within : (o : Option ℕ) (ns : List Node) → start_of o ns ≤ length ns
-start-within None ns = omega arith
-start-within (Some l) ns = past-within l ns
+-- a surface's nodes have no more entries than all, and hold no more layers
+past-room : (l : ℕ) (ns : List Node) → room (past_holder l ns) ≤ room ns
+past-room l [] = omega arith
+past-room l (x ∷ ns) = cond_both (same x.layer (Some l)) ns (past_holder l ns) (λ z. room z ≤ room (x ∷ ns)) (λ _. omega arith) (λ _. omega (arith, past-room l ns))
+
+past-held : (l : ℕ) (ns : List Node) → held (past_holder l ns) ≤ held ns
+past-held l [] = omega arith
+past-held l (x ∷ ns) = cond_both (same x.layer (Some l)) ns (past_holder l ns) (λ z. held z ≤ held (x ∷ ns)) (λ _. omega arith) (λ _. omega (arith, past-held l ns))
+
+pub room-nodes_of : (s : Surface) (ns : List Node) → room (nodes_of s ns) ≤ room ns
+room-nodes_of Scene ns = omega arith
+room-nodes_of (Layer l) ns = past-room l ns
+
+pub held-nodes_of : (s : Surface) (ns : List Node) → held (nodes_of s ns) ≤ held ns
+held-nodes_of Scene ns = omega arith
+held-nodes_of (Layer l) ns = past-held l ns
 
 -- what follows the Enter of layer l is what the walk lists from the node past its holder on
 record Follows (ns : List Node) (l : ℕ) : Type 0 where
   around : List ℕ
-  entries : after l (walk ns [] []) ≡ walk (drop (past_holder l ns) ns) [] (l ∷ around)
-  lacks : Lacks l (drop (past_holder l ns) ns)
+  entries : after l (walk ns [] []) ≡ walk (past_holder l ns) [] (l ∷ around)
+  lacks : Lacks l (past_holder l ns)
 
 follows : (l : ℕ) (t : List Node) → Numbered t → Found t → l < held t → Follows (reverse t) l
 follows l t w f h =
@@ -150,7 +181,7 @@ follows l t w f h =
     let low : held k.older ≤ l = omega (arith, k.before) in
     let apart : reverse t ≡ reverse k.older ++ (x ∷ k.newer) = k.parts ∙ ap (λ z. z ++ k.newer) (reverse-cons x k.older) ∙ append_assoc (reverse k.older) (x ∷ []) k.newer in
     let own : same x.layer (Some l) ≡ true = ap (λ z. same z (Some l)) k.holds ∙ eq-eqb l l refl in
-    let past : drop (past_holder l (reverse t)) (reverse t) ≡ k.newer = ap (λ z. drop (past_holder l z) z) apart ∙ past-holder l (reverse k.older) x k.newer (lacks-older l k.older k.numbered low) own in
+    let past : past_holder l (reverse t) ≡ k.newer = ap (past_holder l) apart ∙ past-holder l (reverse k.older) x k.newer (lacks-older l k.older k.numbered low) own in
     let rest = walk k.newer [] (l ∷ s) in
     record {
       around = s;
@@ -166,34 +197,32 @@ follows l t w f h =
     }
 
 filter-below : (layers : List RecordedLayer) (l : ℕ) → filter_at layers l ≡ true → l < length layers
-filter-below [] l e = let z : ◌≡◌ {A = ℕ} 0 1 = cc in absurd (omega arith)
+filter-below [] l e = absurd (cc)
 filter-below (x ∷ layers) zero e = omega arith
 filter-below (x ∷ layers) (suc l) e = omega (arith, filter-below layers l e)
 
--- the stretch of a surface's nodes, from the first on to where none follows, is what lies on the surface
-module _ (layers : List RecordedLayer) (t : List Node) (long : length layers ≡ held t) (w : Numbered t) (f : Found t) (j : ℕ) (whole : List Listed) where
-  surface-whole : (s : Surface) → is_surface s layers ≡ true → Stretch (reverse t) (owner_of s) (start_of (owner_of s) (reverse t)) j whole → starts (owner_of s) (drop j (reverse t)) ≡ false
-      → inside s (walk (reverse t) [] []) ≡ whole
-  surface-whole Scene is p stopped = p.lines [] refl ∙ ap (λ z. whole ++ z) (walk-done (drop j (reverse t)) [] stopped) ∙ append-nil whole
-  surface-whole (Layer l) is p stopped =
+-- the stretch of a surface's nodes, up to where none follows, is what lies on the surface
+module _ (layers : List RecordedLayer) (t : List Node) {end : List Node} {whole : List Listed} (long : length layers ≡ held t) (w : Numbered t) (f : Found t) where
+  pub surface-whole : (s : Surface) → is_surface s layers ≡ true → Stretch (owner_of s) (nodes_of s (reverse t)) end whole → Clear (nodes_of s (reverse t)) end whole → starts (owner_of s) end ≡ false → inside s (walk (reverse t) [] []) ≡ whole
+  surface-whole Scene is p clear stopped = p.lines [] refl ∙ ap (λ z. whole ++ z) (walk-done end [] stopped) ∙ append-nil whole
+  surface-whole (Layer l) is p clear stopped =
       let low = filter-below layers l is in
       let k = follows l t w f (omega arith) in
-      let rest = walk (drop j (reverse t)) [] k.around in
-      ap (until l) (k.entries ∙ p.lines (l ∷ k.around) refl ∙ ap (λ z. whole ++ z) (leave (drop j (reverse t)) l k.around stopped))
-      ∙ p.clear l k.lacks (Leave l ∷ rest)
+      let rest = walk end [] k.around in
+      ap (until l) (k.entries ∙ p.lines (l ∷ k.around) refl ∙ ap (λ z. whole ++ z) (leave end l k.around stopped))
+      ∙ clear.clear l k.lacks (Leave l ∷ rest)
       ∙ ap (λ z. whole ++ cond z [] (Leave l ∷ until l rest)) (eq-eqb l l refl)
       ∙ append-nil whole
 
-  -- the same of the nodes, the owner and the first place as the code has them
-  pub surface-at : (s : Surface) (ns : List Node) (o : Option ℕ) (i : ℕ) → is_surface s layers ≡ true → ns ≡ reverse t → o ≡ owner_of s → i ≡ start_of (owner_of s) ns
-      → Stretch ns o i j whole → starts o (drop j ns) ≡ false → inside s (walk (reverse t) [] []) ≡ whole
-  surface-at s ns o i is e own first p stopped =
-      let p1 = subst (λ z. Stretch z o i j whole) e p in
-      let p2 = subst (λ z. Stretch (reverse t) z i j whole) own p1 in
-      let p3 = subst (λ z. Stretch (reverse t) (owner_of s) z j whole) (first ∙ ap (start_of (owner_of s)) e) p2 in
-      surface-whole s is p3 (ap (λ z. starts (owner_of s) (drop j z)) (sym e) ∙ ap (λ z. starts z (drop j ns)) (sym own) ∙ stopped)
+-- the same of a recorder's surface, with the nodes and the owner as the code has them
+pub surface-all : (r : Recording) → Sound r.account r.tree → (s : Surface) {ns nodes end : List Node} {o : Option ℕ} {whole : List Listed} → is_surface s r.tree.layers ≡ true → ns ≡ reverse r.tree.nodes → nodes ≡ nodes_of s ns → o ≡ owner_of s
+    → Stretch o nodes end whole → Clear nodes end whole → starts o end ≡ false → inside s (listed r) ≡ whole
+surface-all r sound s {ns} {nodes} {end} {o} {whole} is all first own p clear stopped =
+    let at : nodes ≡ nodes_of s (reverse r.tree.nodes) = first ∙ ap (nodes_of s) all in
+    ∥∥₁_elim sound.1 (Coded-set (coded_list the_row.coded) _ _) (λ x.
+    surface-whole r.tree.layers r.tree.nodes (sound.0.1 ∙ sym x.threads.holds) x.threads.numbered x.threads.found s is (rw (own, at) at p) (rw at at clear) (rw own at stopped))
 
--- a tile shows no more entries than there are
+-- what lies on a surface is no more than there is
 length-until : (l : ℕ) (es : List Listed) → length (until l es) ≤ length es
 length-until l [] = omega arith
 length-until l (Draw n ∷ es) = omega (arith, length-until l es)
@@ -211,3 +240,7 @@ length-after l (Filter m ∷ es) = omega (arith, length-after l es)
 pub length-inside : (s : Surface) (es : List Listed) → length (inside s es) ≤ length es
 length-inside Scene es = omega arith
 length-inside (Layer l) es = omega (arith, length-until l (after l es), length-after l es)
+
+-- a tile shows no more entries than the full walk has
+pub tile_few : (r : Recording) (s : Surface) (t : Tile) (seen : ℕ → Bool) → length (listed r) ≡ entry_count r → length (tile_listed s t seen r) ≤ entry_count r
+tile_few r s t seen all = omega (arith, length-sift seen (layer_shows t r.tree.layers) [] 0 (inside s (listed r)), length-inside s (listed r))

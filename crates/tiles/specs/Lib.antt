@@ -1,3 +1,4 @@
 pub mod Tally
 pub mod Tile
 pub mod TileSteps
+pub mod View

@@ -1,12 +1,14 @@
 -- A list as it grows.
-use Rattle.std.specs.Prelude.{◌≡◌, ℕ, ◌+◌, List, [], ◌∷◌, Some, None, Option, slice_set}
+use Rattle.std.specs.Prelude.{◌≡◌, ℕ, ◌+◌, List, [], ◌∷◌, length, Some, None, Option}
+use Rattle.std.specs.Borrow.{MutBor}
 use Rattle.walk.specs.declared.listed.Listed.{Listed}
 use Rattle.walk.specs.declared.listed.Listed.TheVariants.{Draw, Enter, Leave, Filter}
+use Rattle.walk.specs.Listing.{poured}
 use Rattle.tiles.specs.declared.tally.Tally.{Tally}
 
 -- a list without entries
-abbrev pub nothing : Tally
-nothing = record { count = 0; top = None }
+abbrev pub begun : MutBor (List Listed) → Tally
+begun out = record { out = out; count = 0; top = None }
 
 -- the last draw, with one more entry
 abbrev pub last_draw : Listed → Option ℕ → Option ℕ
@@ -15,17 +17,15 @@ last_draw (Enter l) o = o
 last_draw (Leave l) o = o
 last_draw (Filter l) o = o
 
--- the tally with more entries
-abbrev pub tallied : Tally → List Listed → Tally
-tallied t [] = t
-tallied t (e ∷ es) = tallied (record { count = t.count + 1; top = last_draw e t.top }) es
-
--- the entries written from the place a on, as far as there are places
-abbrev pub poured : ℕ → List Listed → List Listed → List Listed
-poured a [] out = out
-poured a (e ∷ es) out = poured (a + 1) es (slice_set out a e)
+-- the last draw, with more entries
+abbrev pub last_of : Option ℕ → List Listed → Option ℕ
+last_of o [] = o
+last_of o (e ∷ es) = last_of (last_draw e o) es
 
 -- the entries es were added to the list
-pub record Added (es : List Listed) (t : Tally) (out : List Listed) (t' : Tally) (out' : List Listed) : Type 0 where
-  pub tally : t' ≡ tallied t es
-  pub places : out' ≡ poured t.count es out
+pub record Added (es : List Listed) (t t' : Tally) : Type 0 where
+  -- they went to the same places
+  pub same : t'.out.ghost_name ≡ t.out.ghost_name
+  pub count : t'.count ≡ t.count + length es
+  pub top : t'.top ≡ last_of t.top es
+  pub places : t'.out.now ≡ poured t.count es t.out.now

@@ -5,3 +5,4 @@ mod showing;
 pub mod surface;
 mod tally;
 pub mod tile;
+mod view;

@@ -1,6 +1,6 @@
 // What a tile shows of a recorded layer.
 ghost use Rattle.std.specs.Prelude.{◌≡◌};
-ghost use Rattle.tiles.specs.Tile.{showing, layer_shows};
+ghost use Rattle.tiles.specs.Tile.{showing};
 
 use geometry::tile::Tile;
 use layers::layer::{RecordedLayer, RecordedLayerKind};
@@ -15,34 +15,14 @@ pub enum Showing {
 }
 
 // A regular layer shows where its box covers the tile, and a filter layer where its destination does.
-fn shows(layer: &RecordedLayer, tile: Tile) -> Showing
+pub(crate) fn shows(layer: &RecordedLayer, tile: Tile) -> Showing
     ensures { result ≡ showing tile layer.now }
 {
     match layer.kind {
-        RecordedLayerKind::Regular => {
-            if layer.bbox.covers(tile) {
-                Showing::Through
-            } else {
-                Showing::Hidden
-            }
+        RecordedLayerKind::Regular if layer.bbox.covers(tile) => Showing::Through,
+        RecordedLayerKind::Filter { placement, .. } if placement.dest_bbox().covers(tile) => {
+            Showing::Placed
         }
-        RecordedLayerKind::Filter { placement, .. } => {
-            if placement.dest_bbox().covers(tile) {
-                Showing::Placed
-            } else {
-                Showing::Hidden
-            }
-        }
+        _ => Showing::Hidden,
     }
-}
-
-// A number that is not recorded shows nothing.
-pub(crate) fn layer_shows(layers: &[RecordedLayer], number: u32, tile: Tile) -> Showing
-    ensures { result ≡ layer_shows tile layers.now number }
-{
-    let place = number as usize;
-    if place >= layers.len() {
-        return Showing::Hidden;
-    }
-    shows(&layers[place], tile)
 }

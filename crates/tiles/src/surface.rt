@@ -1,12 +1,13 @@
 // What a tile walk starts at.
-ghost use Rattle.std.specs.Prelude.{◌≡◌};
+ghost use Rattle.std.specs.Prelude.{◌≡◌, Some, position};
+ghost use Rattle.record.specs.Table.{same};
 ghost use Rattle.tiles.specs.Tile.{is_surface, filter_at};
-ghost use Rattle.tiles.specs.TileSteps.{owner_of, past_holder, start_of};
+ghost use Rattle.tiles.specs.TileSteps.{owner_of, past_holder, nodes_of};
 
 use layers::layer::{RecordedLayer, RecordedLayerKind};
 use layers::node::Node;
-use record::owner::same_owner;
 
+// Not an Option: the names say what a walk starts at.
 #[derive(Clone, Copy, Debug, PartialEq, Eq)]
 pub enum Surface {
     Scene,
@@ -18,29 +19,25 @@ pub enum Surface {
 fn is_filter(layers: &[RecordedLayer], number: u32) -> bool
     ensures { result ≡ filter_at layers.now number }
 {
-    let place = number as usize;
-    if place >= layers.len() {
-        return false;
-    }
-    match layers[place].kind {
-        RecordedLayerKind::Regular => false,
-        RecordedLayerKind::Filter { .. } => true,
-    }
+    let layer = layers.get(number as usize);
+    layer.is_some_and(|layer| matches!(layer.kind, RecordedLayerKind::Filter { .. }))
 }
 
-// The place after the node that holds the layer.
-fn past_holder(nodes: &[Node], layer: u32) -> usize
-    ensures { result ≡ past_holder layer nodes.now }
+// The place of the node that holds the layer.
+fn holder(nodes: &[Node], layer: u32) -> Option<usize>
+    ensures { result ≡ position (λ x. same x.layer (Some layer)) nodes.now }
 {
-    let mut i = 0;
-    while i < nodes.len() {
-        let node = nodes[i];
-        i += 1;
-        if same_owner(node.layer, Some(layer)) {
-            return i;
-        }
+    nodes.iter().position(|node| node.layer == Some(layer))
+}
+
+// The nodes after the one that holds the layer.
+fn past_holder(nodes: &[Node], layer: u32) -> &[Node]
+    ensures { result.now ≡ past_holder layer nodes.now }
+{
+    match holder(nodes, layer) {
+        Some(place) => &nodes[place + 1..],
+        None => &[],
     }
-    i
 }
 
 impl Surface {
@@ -63,12 +60,12 @@ impl Surface {
         }
     }
 
-    // The place of the surface's first node.
-    pub(crate) fn start(self, nodes: &[Node]) -> usize
-        ensures { result ≡ start_of (owner_of self) nodes.now }
+    // The nodes from the surface's first on.
+    pub(crate) fn nodes(self, nodes: &[Node]) -> &[Node]
+        ensures { result.now ≡ nodes_of self nodes.now }
     {
         match self {
-            Surface::Scene => 0,
+            Surface::Scene => nodes,
             Surface::Layer(number) => past_holder(nodes, number),
         }
     }

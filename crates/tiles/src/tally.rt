@@ -1,51 +1,48 @@
 // A list as it grows: its entries are written where there is a place for them, and counted in any case.
 ghost use Rattle.std.specs.Prelude.{◌≡◌, ◌^◌, ◌<◌, [], ◌∷◌, slice_set};
-ghost use Rattle.tiles.specs.Tally.{last_draw, Added};
+ghost use Rattle.tiles.specs.Tally.{begun, Added};
 
 use walk::listed::Listed;
 
-#[derive(Clone, Copy)]
-pub struct Tally {
-    pub count: usize,
+// Not the full walk's list: that one has a place for every entry, and its writes need no test.
+#[derive(Drop)]
+pub(crate) struct Tally<'a> {
+    pub(crate) out: &'a mut [Listed],
+    pub(crate) count: usize,
     // The last draw listed.
-    pub top: Option<u32>,
+    pub(crate) top: Option<u32>,
 }
 
 // Writes an entry where there is a place for it.
 fn put(out: &mut [Listed], place: usize, entry: Listed)
     ensures { out.new ≡ slice_set out.old place entry }
 {
+    // By its index: what a slice's get_mut lends says nothing of the list afterwards.
     if place < out.len() {
         out[place] = entry;
     }
 }
 
-// The last draw, with one more entry.
-fn last_draw(entry: Listed, top: Option<u32>) -> Option<u32>
-    ensures { result ≡ last_draw entry top }
-{
-    match entry {
-        Listed::Draw(number) => Some(number),
-        Listed::Enter(_) | Listed::Leave(_) | Listed::Filter(_) => top,
-    }
-}
-
-impl Tally {
+impl<'a> Tally<'a> {
     // A list without entries.
-    pub const NONE: Tally = Tally {
-        count: 0,
-        top: None,
-    };
-
-    // The tally with one more entry.
-    pub(crate) fn add(self, entry: Listed, out: &mut [Listed]) -> Tally
-        requires { self.count < 2 ^ 32 }
-        ensures { Added (entry ∷ []) self out.old result out.new }
+    pub(crate) fn new(out: &'a mut [Listed]) -> Tally<'a>
+        ensures { Added [] (begun out.entry) result }
     {
-        put(out, self.count, entry);
         Tally {
-            count: self.count + 1,
-            top: last_draw(entry, self.top),
+            out,
+            count: 0,
+            top: None,
+        }
+    }
+
+    pub(crate) fn push(&mut self, entry: Listed)
+        requires { self.old.count < 2 ^ 32 }
+        ensures { Added (entry ∷ []) self.old self.new }
+    {
+        put(self.out, self.count, entry);
+        self.count += 1;
+        if let Listed::Draw(number) = entry {
+            self.top = Some(number);
         }
     }
 }

@@ -1,3 +1,3 @@
-pub mod Tables
 pub mod Walks
 pub mod Counts
+pub mod Listings

@@ -1,5 +1,5 @@
 -- What a full walk lists of a table of nodes, read from the first node on.
-use Rattle.std.specs.Prelude.{◌≡◌, ℕ, zero, suc, ◌+◌, ◌-◌, ◌*◌, ◌≤◌, Bool, false, cond, List, [], ◌∷◌, ◌++◌, length, take, drop, Some, None, Option}
+use Rattle.std.specs.Prelude.{◌≡◌, ℕ, zero, suc, ◌+◌, ◌-◌, ◌*◌, ◌≤◌, Bool, false, cond, List, [], ◌∷◌, ◌++◌, length, Some, None, Option}
 use Rattle.layers.specs.declared.node.Node.{Node}
 use Rattle.record.specs.Nesting.{pushed, seek}
 use Rattle.record.specs.Table.{same, top, held, holding}
@@ -11,6 +11,10 @@ abbrev pub spanned : ℕ → ℕ → List Listed
 spanned a zero = []
 spanned a (suc k) = spanned a k ++ (Draw (a + k) ∷ [])
 
+-- a node's own draws
+abbrev pub own_draws : Node → List Listed
+own_draws x = spanned x.start (x.end - x.start)
+
 -- the entries with an Enter of the layer, where there is one
 abbrev pub entered : Option ℕ → List Listed → List Listed
 entered None out = out
@@ -18,7 +22,7 @@ entered (Some l) out = out ++ (Enter l ∷ [])
 
 -- the entries with those of one node's own: its draws, then its layer's beginning
 abbrev pub told : List Listed → Node → List Listed
-told out x = entered x.layer (out ++ spanned x.start (x.end - x.start))
+told out x = entered x.layer (out ++ own_draws x)
 
 -- the entries with a Leave of each layer further in than `o`
 abbrev pub leaves : Option ℕ → List Listed → List ℕ → List Listed
@@ -49,13 +53,14 @@ abbrev pub room : List Node → ℕ
 room [] = 0
 room (x ∷ xs) = ((x.end - x.start) + 2 * holding x.layer) + room xs
 
--- A walk of the layer `o` has gone from node i and place a to node j and place b.
-pub record Walked (ns : List Node) (o : Option ℕ) (i a : ℕ) (out : List Listed) (j b : ℕ) (out' : List Listed) : Type 0 where
-  pub onward : i ≤ j
-  pub within : j ≤ length ns
-  pub later : a ≤ b
-  pub lines : (s : List ℕ) → top s ≡ o → walk (drop j ns) (take b out') s ≡ walk (drop i ns) (take a out) s
-  pub rooms : b + room (drop j ns) ≡ a + room (drop i ns)
-  pub fewer : held (drop j ns) ≤ held (drop i ns)
-  pub beyond : drop b out' ≡ drop b out
-  pub long : length out' ≡ length out
+-- x is the first of the nodes ns and is `o`'s, and the nodes xs come after it
+pub record Next (o : Option ℕ) (ns : List Node) (x : Node) (xs : List Node) : Type 0 where
+  pub first : ns ≡ x ∷ xs
+  pub own : x.owner ≡ o
+
+-- from the nodes ns of the layer `o` up to the nodes ns' the walk lists `whole`
+pub record Stretch (o : Option ℕ) (ns ns' : List Node) (whole : List Listed) : Type 0 where
+  pub shorter : length ns' ≤ length ns
+  pub lines : (s : List ℕ) → top s ≡ o → walk ns [] s ≡ whole ++ walk ns' [] s
+  pub rooms : length whole + room ns' ≡ room ns
+  pub fewer : held ns' ≤ held ns

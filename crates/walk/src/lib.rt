@@ -3,3 +3,4 @@
 
 pub mod full;
 pub mod listed;
+mod listing;

@@ -3,13 +3,8 @@ use Rattle.std.proofs.lemmas.Result.{err_from_is_err_and}
 use Rattle.text.specs.Lines.{lines_of}
 use Rattle.script.specs.Readings.{LineLeads, StopsAt}
 use Rattle.script.specs.Sheets.{view_of}
-use Rattle.script.proofs.Follows.{so-far-none, so_far_more, so-far-all, stopped-at}
+use Rattle.script.proofs.Follows.{so_far_more, stopped-at}
 use Rattle.script.proofs.script.read_sheet.Goals as goal
-
-pub loop-line-init : goal.loop-line-init
-loop-line-init g c =
-    let made = c.new-line-items.ensures in
-    rw (c.into_iter-line-iterator.ensures.into_iter_gives, c.new-sheet.ensures, made.0, made.1) (so-far-none g.D.DrawLine.Written (lines_of c.args.bytes.now))
 
 pub loop-line-preserved : goal.loop-line-preserved
 loop-line-preserved g c =
@@ -23,6 +18,3 @@ returns-in_err-read_line g c =
     let p = err_from_is_err_and c.from_residual.result c.from_residual.ensures.1 in
     let fault = subst (λ n. StopsAt g.D.DrawLine.Written (view_of c.loop-line.sheet) n c.in-Some.line.bytes.now c.in_err-read_line.field-0.0) (number ∙ taken) c.in_err-read_line.ensures in
     rw (p.1, p.2) (stopped-at g.D.DrawLine.Written (lines_of c.args.bytes.now) _ _ _ _ _ split c.loop-line.invariant c.in_err-read_line.field-0.0 fault)
-
-pub returns : goal.returns
-returns g c = so-far-all g.D.DrawLine.Written (lines_of c.args.bytes.now) _ _ _ c.in-None.ensures.steps c.loop-line.invariant

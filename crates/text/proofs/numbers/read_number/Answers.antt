@@ -1,23 +1,13 @@
-use Rattle.std.proofs.Common.{Ok, Err, refl, arith}
-use Rattle.std.proofs.lemmas.Str.Parse.{parse_digits}
-use Rattle.text.specs.Numbers.{Numeral}
-use Rattle.text.proofs.Numerals.{own}
+use Rattle.std.proofs.Common.{◌≡◌, Ok, Err, Result, MatchResult, sym, ◌∙◌}
+use Rattle.std.specs.Result.{IsErrAnd}
+use Rattle.std.proofs.lemmas.Result.{err_from_is_err_and}
 use Rattle.text.proofs.numbers.read_number.Goals as goal
 
-pub returns-in_default : goal.returns-in_default
-returns-in_default c =
-    let numeral : Numeral c.args.word.now = c.is_numeral.ensures.0 c.if-not-is_numeral.false in
-    let unread = parse_digits own 32 c.args.word.now (Err c.in_default.field-0) c.in_default.ensures.value.0 numeral.1 in
-    record { value = λ h. unread (numeral.0, omega (arith, h.1, c.ranges.most.fits)); reason = (λ _. refl, λ no. absurd (no numeral)) }
+-- what is known of one answer is known of another that differs in its error alone
+through : {A E F : Type 0} (P : A → Type 0) (Q : Type 0) (R : E → F → Type 0) (p : Result A E) (r : Result A F) → MatchResult p (λ x. r ≡ Ok x) (λ e. IsErrAnd r (R e)) → MatchResult p P (λ _. Q) → MatchResult r P (λ _. Q)
+through P Q R (Ok x) r same known = rw same known
+through P Q R (Err e) r err known = let p = err_from_is_err_and r err in rw p.1 known
 
-pub returns-then-number-most : goal.returns-then-number-most
-returns-then-number-most c =
-    let numeral : Numeral c.args.word.now = c.is_numeral.ensures.0 c.if-not-is_numeral.false in
-    let read = parse_digits own {E = ⊥} 32 c.args.word.now (Ok c.in-Ok.number) c.in-Ok.ensures.value.0 numeral.1 in
-    record { value = λ h. omega (arith, h.1, read.1, c.if-number-most.true); reason = (λ _. refl, λ no. absurd (no numeral)) }
-
-pub returns : goal.returns
-returns c =
-    let numeral : Numeral c.args.word.now = c.is_numeral.ensures.0 c.if-not-is_numeral.false in
-    let read = parse_digits own {E = ⊥} 32 c.args.word.now (Ok c.in-Ok.number) c.in-Ok.ensures.value.0 numeral.1 in
-    record { value = ((numeral, omega (arith, read.1, c.if-number-most.false)), read.1); reason = tt }
+pub returns-clause-value : goal.returns-clause-value
+returns-clause-value g c = λ rest.
+    through _ _ _ c.parse.result c.map_err.result c.map_err.ensures.cases (g.met.N.Number.reads.given c.args.word.now rest c.parse.result (sym c.is_numeral.ensures ∙ c.if-not-is_numeral.false) c.parse.ensures.value)

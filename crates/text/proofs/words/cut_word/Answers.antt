@@ -1,12 +1,6 @@
-use Rattle.std.proofs.Common.{arith}
-use Rattle.text.proofs.Splits.{cut_at, uncut}
+use Rattle.std.proofs.Common.{refl}
+use Rattle.text.proofs.Splits.{cut-or}
 use Rattle.text.proofs.words.cut_word.Goals as goal
 
-pub returns-in-Some : goal.returns-in-Some
-returns-in-Some c =
-    let h = c.in-Some.ensures.cases in
-    let cut = cut_at c.args.text.now h.0 h.1 h.2 in
-    record { words = rw (h.3, h.4) cut.0; some = λ _ dark. omega (arith, cut.1 dark, h.6) }
-
-pub returns-in-None : goal.returns-in-None
-returns-in-None c = record { words = uncut c.args.text.now c.in-None.ensures.cases; some = λ some _. some }
+pub returns : goal.returns
+returns c = rw c.unwrap_or.ensures (let cut = cut-or c.args.text.now c.split_once.result _ c.split_once.ensures.cases refl refl in record { words = cut.0; some = cut.1 })

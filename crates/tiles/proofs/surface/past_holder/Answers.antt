@@ -1,20 +1,14 @@
-use Rattle.std.proofs.Common.{sym, ap, ◌∙◌, arith}
-use Rattle.std.proofs.lemmas.List.{drop_all}
-use Rattle.tiles.specs.TileSteps.{past_holder}
-use Rattle.tiles.proofs.Surfaces.{past-here, past_next}
+use Rattle.std.proofs.Common.{◌+◌, ◌-◌, ◌≤◌, length, drop, ◌∙◌, arith, length-drop}
+use Rattle.std.proofs.lemmas.List.{take_all}
+use Rattle.tiles.proofs.Surfaces.{past_some, past_none}
 use Rattle.tiles.proofs.surface.past_holder.Goals as goal
 
-pub returns-then-same_owner : goal.returns-then-same_owner
-returns-then-same_owner c =
-    let e = past-here c.args.layer c.args.nodes.now c.loop-i.i c.loop-i-test.true (sym c.same_owner.ensures ∙ c.if-same_owner.true) in
-    omega (arith, c.loop-i.invariant)
+pub returns-in-Some : goal.returns-in-Some
+returns-in-Some c =
+    let ns = c.args.nodes.now in
+    let i = c.in-Some.place in
+    let all : length (drop (i + 1) ns) ≤ length ns - (i + 1) = omega (arith, length-drop (i + 1) ns) in
+    take_all (length ns - (i + 1)) (drop (i + 1) ns) all ∙ past_some c.args.layer ns i c.in-Some.ensures
 
-pub loop-i-preserved : goal.loop-i-preserved
-loop-i-preserved c =
-    let e = past_next c.args.layer c.args.nodes.now c.loop-i.i c.loop-i-test.true (sym c.same_owner.ensures ∙ c.if-same_owner.false) in
-    omega (arith, c.loop-i.invariant)
-
-pub returns : goal.returns
-returns c =
-    let e = ap (past_holder c.args.layer) (drop_all c.loop-i.i c.args.nodes.now c.loop-i-test.false) in
-    omega (arith, c.loop-i.invariant)
+pub returns-in-None : goal.returns-in-None
+returns-in-None c = past_none c.args.layer c.args.nodes.now c.in-None.ensures

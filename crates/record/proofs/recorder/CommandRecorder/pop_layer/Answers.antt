@@ -1,16 +1,10 @@
-use Rattle.record.specs.Account.{account_of}
-use Rattle.record.specs.Tree.{tree_of}
-use Rattle.record.proofs.Sounds.{sound-at, innermost-recorded, sound-leave}
+use Rattle.std.proofs.Common.{sym, ap, ◌∙◌}
+use Rattle.record.specs.Recording.{active}
+use Rattle.record.proofs.Sounds.{sound-at, sound-leave}
 use Rattle.record.proofs.recorder.CommandRecorder.pop_layer.Goals as goal
-
-pub close_layer-requires : goal.close_layer-requires
-close_layer-requires c =
-    let r = c.args.self.now in
-    innermost-recorded c.in-Some.id (account_of r.account) (tree_of r.tree) c.in-Some.ensures (r.counted, r.nests)
 
 pub invariant_of-self : goal.invariant_of-self
 invariant_of-self c =
-    let r = c.args.self.now in
-    let s = sound-at c.leave_layer.ensures c.close_layer.ensures
-    (sound-leave c.in-Some.id (account_of r.account) (tree_of r.tree) c.in-Some.ensures (r.counted, r.nests) c.in_ok-closed.closed) in
-    record { counted = s.0; nests = s.1 }
+    let r = c.self.inside in
+    let innermost = sym c.in_ok-id.ensures.ok_part ∙ c.active_layer.ensures ∙ ap active (sym c.self.view_is) in
+    sound-at c.leave_layer.ensures c.close_layer.ensures (sound-leave c.in_ok-id.id r.account r.tree innermost c.self.invariant c.in_ok-closed.closed)

@@ -1,8 +1,6 @@
-use Rattle.std.proofs.Common.{◌<◌, length, is_some, vec_items, sym, ap, ◌∙◌, arith}
+use Rattle.std.proofs.Common.{is_some, vec_items, sym, ap, ◌∙◌, arith}
 use Rattle.std.proofs.lemmas.Option.{MatchOption-at_some}
-use Rattle.record.specs.Recording.{recording}
-use Rattle.tiles.specs.declared.surface.Surface.TheVariants.{Scene}
-use Rattle.stage.proofs.Listings.{hit-within, line_at}
+use Rattle.stage.proofs.Listings.{hit_place, line_at}
 use Rattle.stage.proofs.stage.Stage.hit.Goals as goal
 
 pub returns-in_default : goal.returns-in_default
@@ -12,36 +10,16 @@ returns-in_default g c =
 
 -- the draw that was hit stands in the tile's list, and so in the draw list
 pub offset_bounds-draws-number : goal.offset_bounds-draws-number
-offset_bounds-draws-number g c =
-    let x = c.args.self.now.design in
-    let ds = vec_items x.draws in
-    let below = hit-within (λ d. g.D.Drawable.box_of d.draw x.strips.now) Scene c.args.tile ds (recording x.recorder) c.in-Some.number (MatchOption-at_some _ _ _ c.in-Some.is c.in_ok-number.ensures.some.1) in
-    let same = ap length c.draws.ensures in
-    omega arith
+offset_bounds-draws-number g c = let below = hit_place (λ d. g.D.Drawable.box_of d.draw) c.args.self.now.design c.args.tile c.in-Some.is c.in_ok-number.ensures.some.1 c.draws.ensures in omega arith
 
 pub bounds-draws-number : goal.bounds-draws-number
-bounds-draws-number g c =
-    let x = c.args.self.now.design in
-    let ds = vec_items x.draws in
-    let below = hit-within (λ d. g.D.Drawable.box_of d.draw x.strips.now) Scene c.args.tile ds (recording x.recorder) c.in-Some.number (MatchOption-at_some _ _ _ c.in-Some.is c.in_ok-number.ensures.some.1) in
-    let same = ap length c.draws.ensures in
-    omega arith
+bounds-draws-number g c = hit_place (λ d. g.D.Drawable.box_of d.draw) c.args.self.now.design c.args.tile c.in-Some.is c.in_ok-number.ensures.some.1 c.draws.ensures
 
 pub bounds-draws-number-in-Some : goal.bounds-draws-number-in-Some
-bounds-draws-number-in-Some g c =
-    let x = c.args.self.now.design in
-    let ds = vec_items x.draws in
-    let below = hit-within (λ d. g.D.Drawable.box_of d.draw x.strips.now) Scene c.args.tile ds (recording x.recorder) c.in-Some.number (MatchOption-at_some _ _ _ c.in-Some.is c.in_ok-number.ensures.some.1) in
-    let same = ap length c.draws.ensures in
-    omega arith
+bounds-draws-number-in-Some g c = hit_place (λ d. g.D.Drawable.box_of d.draw) c.args.self.now.design c.args.tile c.in-Some.is c.in_ok-number.ensures.some.1 c.draws.ensures
 
 pub returns : goal.returns
 returns g c =
-    let x = c.args.self.now.design in
-    let ds = vec_items x.draws in
-    let below = hit-within (λ d. g.D.Drawable.box_of d.draw x.strips.now) Scene c.args.tile ds (recording x.recorder) c.in-Some.number (MatchOption-at_some _ _ _ c.in-Some.is c.in_ok-number.ensures.some.1) in
-    let same = ap length c.draws.ensures in
-    let lt : c.in-Some.number < length c.draws.result.now = omega arith in (
-      c.in_ok-number.ensures.some.0,
-      (MatchOption-at_some _ _ _ c.in-Some.is c.in_ok-number.ensures.some.1, line_at c.draws.result.now ds c.in-Some.number _ c.draws.ensures lt),
-    )
+    let (asked, some) = c.in_ok-number.ensures.some in
+    let below = hit_place (λ d. g.D.Drawable.box_of d.draw) c.args.self.now.design c.args.tile c.in-Some.is some c.draws.ensures in
+    (asked, (MatchOption-at_some _ _ _ c.in-Some.is some, line_at c.draws.result.now (vec_items c.args.self.now.design.draws) c.in-Some.number _ c.draws.ensures below))

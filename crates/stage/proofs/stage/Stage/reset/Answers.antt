@@ -1,0 +1,5 @@
+use Rattle.stage.proofs.Leads.{refused_leads}
+use Rattle.stage.proofs.stage.Stage.reset.Goals as goal
+
+pub returns-in_err-make-clause-leads : goal.returns-in_err-make-clause-leads
+returns-in_err-make-clause-leads g c = refused_leads c.make.result c.from_residual.result c.in_err-make.was c.from_residual.ensures.0 c.make.ensures.leads
