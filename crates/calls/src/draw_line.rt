@@ -37,7 +37,7 @@ impl Kind {
     }
 }
 
-// The kind whose lines begin with this word.
+// The kind whose lines begin with this word. Its words stand in `Head` too: each table is one of the definitions.
 impl FromStr for Kind {
     type Err = Reason;
 
@@ -54,7 +54,7 @@ impl FromStr for Kind {
 
 // A draw that a line of a script can write.
 pub trait DrawLine: Drawable + Clone + Copy {
-    // What stands in a draw list where no draw is recorded yet.
+    // What stands in a draw list where no draw is recorded yet. No `Default`: it fills a place, and is nobody's default draw.
     fn blank() -> Self;
 
     // The first word of a line and the words after it, the draw that they say, and the words that are left.
@@ -62,6 +62,7 @@ pub trait DrawLine: Drawable + Clone + Copy {
 
     // The draw of a line that begins with `word`, or why there is no such draw.
     // A line that begins with the word of another kind is faulty.
+    // By its word and not its kind, since what is said is a relation of the word.
     fn read(word: &str, words: &mut Words<'_>) -> Result<Result<Self, Refusal>, Reason>
         ensures { Told (Written word.now) words.old result words.new };
 

@@ -40,13 +40,14 @@ impl FromStr for Head {
             "strip" => Ok(Head::Strip),
             "places" => Ok(Head::Places),
             "reset" => Ok(Head::Call(Verb::Reset)),
-            "fill" => Ok(Head::Call(Verb::Draw(Kind::Fill))),
-            "run" => Ok(Head::Call(Verb::Draw(Kind::Run))),
             "open" => Ok(Head::Call(Verb::Open)),
             "close" => Ok(Head::Call(Verb::Close)),
             "walk" => Ok(Head::Call(Verb::Walk)),
             "report" => Ok(Head::Call(Verb::Report)),
-            _ => Err(Reason::UnknownWord),
+            _ => {
+                let kind = word.parse().map_err(|_| Reason::UnknownWord)?;
+                Ok(Head::Call(Verb::Draw(kind)))
+            }
         }
     }
 }

@@ -2,6 +2,7 @@
 ghost use Rattle.std.specs.Prelude.{◌≡◌, true};
 ghost use Rattle.draws.specs.Mode.{default_mode};
 
+// Two numbers and no enum: what they stand for is the caller's.
 #[derive(Clone, Copy, Debug, PartialEq, Eq)]
 pub struct BlendMode {
     pub mix: u8,

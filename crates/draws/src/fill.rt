@@ -9,7 +9,6 @@ use crate::blend::BlendMode;
 use crate::drawable::Drawable;
 use crate::strip::Strip;
 use geometry::rect::RectU16;
-use geometry::tile::Tile;
 use refusal::Refusal;
 
 // The rectangle is empty, or its high edges are at most 65,532.
@@ -26,9 +25,8 @@ impl Fill {
     pub fn new(rect: RectU16, blend_mode: Option<BlendMode>) -> Result<Fill, Refusal>
         ensures { Answers ((fits rect, 1) ∷ []) result (λ f. (f.rect ≡ rect) × (f.blend_mode ≡ blend_mode)) (Unit {0}) }
     {
-        if !rect.is_empty() && (rect.x1 > Tile::LAST_EDGE || rect.y1 > Tile::LAST_EDGE) {
-            return Err(Refusal::FillPastEdge);
-        }
+        rect.snap_to_tile_coordinates()
+            .ok_or(Refusal::FillPastEdge)?;
         Ok(Fill { rect, blend_mode })
     }
 

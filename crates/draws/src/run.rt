@@ -40,6 +40,7 @@ impl Drawable for Run {
         let end = (self.end as usize).min(strips.len());
         let start = (self.start as usize).min(end);
         let mut bbox = None;
+        // A loop over the part, one strip after another, as the rule has it.
         for strip in &strips[start..end] {
             bbox = join(bbox, strip.snapped());
         }

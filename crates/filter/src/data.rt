@@ -14,7 +14,7 @@ pub struct FilterData {
 }
 
 impl FilterData {
-    // By how much the contents are moved while they are drawn.
+    // By how much the contents are moved while they are drawn: a pair, as the rules have it.
     pub fn source_shift(&self) -> (u16, u16)
         ensures { result ≡ (self.now.source_padding.left, self.now.source_padding.top) }
     {

@@ -6,7 +6,7 @@ ghost use Rattle.filter.specs.Placement.{placed, Lies, Nowhere, OnTiles, ShiftOn
 use crate::data::FilterData;
 use geometry::rect::RectU16;
 
-#[derive(Clone, Copy, Debug)]
+#[derive(Clone, Copy, Debug, Default)]
 pub struct FilterLayerPlacement {
     pixmap_bbox: RectU16,
     dest_bbox: RectU16,
@@ -59,7 +59,7 @@ impl FilterLayerPlacement {
         self.dest_bbox
     }
 
-    // The pixel of the pixmap that comes to the destination's low corner.
+    // The pixel of the pixmap that comes to the destination's low corner: a pair, as the rules have it.
     pub fn src_origin(self) -> (u16, u16)
         ensures { result ≡ (self.src_x, self.src_y) }
     {

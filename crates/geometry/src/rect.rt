@@ -21,7 +21,7 @@ pub struct RectU16 {
 fn shift_edge(edge: u16, by: i32) -> u16
     ensures { result ≡ moved edge by }
 {
-    (edge as i64 + by as i64).clamp(0, 65_535) as u16
+    (i64::from(edge) + i64::from(by)).clamp(0, 65_535) as u16
 }
 
 impl RectU16 {
@@ -61,6 +61,7 @@ impl RectU16 {
         self.y1.saturating_sub(self.y0)
     }
 
+    // A method and no `From`: a rectangle's size is asked of it by name.
     pub fn size(self) -> SizeU16
         ensures { result ≡ size (self.x1 - self.x0) (self.y1 - self.y0) }
     {
@@ -79,7 +80,7 @@ impl RectU16 {
         ensures value { result ≡ holds self x y }
         ensures points { Decides result (Holds self x y) }
     {
-        x >= self.x0 && x < self.x1 && y >= self.y0 && y < self.y1
+        (self.x0..self.x1).contains(&x) && (self.y0..self.y1).contains(&y)
     }
 
     // What both rectangles hold. It may be empty, and is never inverted.
@@ -134,7 +135,7 @@ impl RectU16 {
         ensures value { result ≡ relative self origin.0 origin.1 }
         ensures points { (x y : ℕ) → Iff (Holds result x y) (Holds self (x + origin.0) (y + origin.1)) }
     {
-        self.shift((-(origin.0 as i32), -(origin.1 as i32)))
+        self.shift((-i32::from(origin.0), -i32::from(origin.1)))
     }
 
     // The smallest rectangle of whole tiles that holds this one, where its edges have 16 bits.
@@ -172,8 +173,11 @@ impl RectU16 {
         ensures value { result ≡ covered tile self }
         ensures whole { WholeTile self → (result ≡ true → HoldsAll tile self) × (result ≡ false → HoldsNone tile self) }
     {
-        let x = tile.x as u32 * Tile::WIDTH as u32;
-        let y = tile.y as u32 * Tile::HEIGHT as u32;
-        self.x0 as u32 <= x && x < self.x1 as u32 && self.y0 as u32 <= y && y < self.y1 as u32
+        let x = u32::from(tile.x) * u32::from(Tile::WIDTH);
+        let y = u32::from(tile.y) * u32::from(Tile::HEIGHT);
+        u32::from(self.x0) <= x
+            && x < u32::from(self.x1)
+            && u32::from(self.y0) <= y
+            && y < u32::from(self.y1)
     }
 }

@@ -31,10 +31,7 @@ fn regular_bbox(layer: &OpenLayer) -> RectU16
     ensures { result ≡ clipped (or_zero layer.now.contents) layer.now.clip }
 {
     let bbox = layer.contents.unwrap_or(RectU16::ZERO);
-    match layer.clip {
-        Some(clip) => bbox.intersect(clip),
-        None => bbox,
-    }
+    layer.clip.map_or(bbox, |clip| bbox.intersect(clip))
 }
 
 // What the closing of a layer gives. Clauses tell a refusal by its number, as it is known outside.

@@ -10,17 +10,18 @@ pub struct RecordedLayer {
     pub kind: RecordedLayerKind,
     // How many layers were open when it was opened, plus one.
     pub depth: u32,
-    // Zero until the layer is closed.
+    // Zero until the layer is closed, and no Option, as the rules have it.
     pub bbox: RectU16,
 }
 
+// Not an Option: the names say what kind of layer it is.
 #[derive(Clone, Copy, Debug, Default)]
 pub enum RecordedLayerKind {
     #[default]
     Regular,
     Filter {
         filter_data: FilterData,
-        // All zero until the layer is closed.
+        // All zero until the layer is closed, and no Option, as the rules have it.
         placement: FilterLayerPlacement,
     },
 }
@@ -48,6 +49,6 @@ pub struct ClosedLayer {
     pub bbox: RectU16,
     // What the layer around it takes in.
     pub in_parent: RectU16,
-    // A filter layer's.
+    // A filter layer's. Beside the boxes and no enum of two: both kinds have both boxes.
     pub placement: Option<FilterLayerPlacement>,
 }

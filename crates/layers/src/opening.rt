@@ -1,7 +1,7 @@
 // What an opening asks of its arguments, and what it records.
 ghost use Rattle.std.specs.Prelude.{◌≡◌, ◌&&◌};
 ghost use Rattle.refusal.specs.Refusals.{Answers};
-ghost use Rattle.layers.specs.Opening.{opacity_fits, on_tile, clip_on_tiles, shift_on_tiles, argument_questions, clip_box};
+ghost use Rattle.layers.specs.Opening.{opacity_fits, clip_on_tiles, shift_on_tiles, argument_questions, clip_box};
 ghost use Rattle.layers.specs.Records.{recorded_open};
 
 use crate::layer::{RecordedLayer, RecordedLayerKind};

@@ -39,6 +39,7 @@ pub struct LayerClip {
     pub bbox: RectU16,
 }
 
+// Not a `Range`, which is not `Copy`.
 #[derive(Clone, Copy, Debug)]
 pub struct StripRange {
     pub start: u32,

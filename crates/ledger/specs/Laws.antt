@@ -37,7 +37,7 @@ pub record Nesting {D : Type 0} (box_of : D → Option RectU16) (es : List (Entr
   -- the list of each tile on the scene, and on every filter layer's surface, is the one that the nesting gives, by clips
   pub tiles : (s : Surface) (t : Tile) → is_surface s r.tree.layers ≡ true → tile_listed s t (draw_shows box_of t ds) r ≡ tile_list box_of s t sheet
 
--- The ledger b led to the r and the draw list ds.
+-- The ledger b led to the recording r and the draw list ds.
 pub record Led {D : Type 0} (box_of : D → Option RectU16) (mode_of : D → Option BlendMode) (b : Ledger D) (r : Recording) (ds : List D) : Type 0 where
   -- at any time the recording is the one that the rules give for the ledger
   pub recording : r ≡ recorded box_of mode_of b

@@ -2,7 +2,7 @@
 use draws::strip::Strip;
 use record::recorder::CommandRecorder;
 
-// It has no `Model`: its calls' clauses speak of each of its fields.
+// It has no `Model`: one would name the same three fields again, which its calls' clauses speak of each.
 // Every design comes from a new recorder by calls: what their ledger says holds of it, by the contract of each call.
 #[derive(Drop)]
 pub struct Design<'a, D: Drop> {

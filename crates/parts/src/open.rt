@@ -1,5 +1,5 @@
 // The opening of a layer, as a script writes it. Its parts stand in one order, and each may be left out.
-// Each part asks for its word itself: a function for all would take the rest as a closure, and ask something of it.
+// Each part asks for its word itself, in two lines: a function for all, which takes the rest as a closure, is no shorter at its callers.
 ghost use Rattle.text.specs.Readers.{Reads, following, behind};
 ghost use Rattle.parts.specs.Openings.{opacity_of, mask_of, path_of, clip_of, props_of, filter_of, open_of};
 ghost use Rattle.parts.specs.Shapes.{padding_of};

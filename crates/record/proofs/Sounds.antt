@@ -192,7 +192,7 @@ sound-draw b mode a t few w =
     let e = ids-take_in b a.opened in
     let n = length-take_in b a.opened in
     let c = count-draw s (length a.opened) a.layers a.drawn t.nodes w.0.0 in (
-      (rw (e, n) c, w.0.1, w.0.2, w.0.3, omega arith),
+      (rw (e, n) c, w.0.1, w.0.2, w.0.3, omega arith, w.0.5, rw n w.0.6),
       ∥∥₁_map w.1 (λ x. record { threads = rw e (threads-draw s a.drawn a.layers t.nodes x.threads); unclosed = rw e x.unclosed }),
     )
 
@@ -208,7 +208,7 @@ sound-open props f d a t few w =
     let layer = recorded_open props f d in
     let long = length-append t.layers (layer ∷ []) in
     let more = length-filters f a.layers t.filters in (
-      (c, omega (arith, w.0.1, long), omega (arith, w.0.2, more), omega arith, w.0.4),
+      (c, omega (arith, w.0.1, long), omega (arith, w.0.2, more), omega arith, w.0.4, omega (arith, w.0.5, w.0.6), omega (arith, w.0.6)),
       ∥∥₁_map w.1 (λ x. record {
         threads = threads-open s a.drawn a.layers t.nodes x.threads;
         unclosed = (subst (UnclosedAt (t.layers ++ (layer ∷ []))) w.0.1 (unclosed-last t.layers layer (refl, open-unplaced f)), all_append t.layers layer s x.unclosed);
@@ -224,7 +224,7 @@ sound-close k o outer a t e w =
     let h : length t.nodes + suc (length outer) ≤ 2 * a.layers + joint t.nodes (top (o.id ∷ s)) = rw e at w.0.0 in
     let c = count-close a.layers (length outer) o.id s t.nodes h in
     let m = length-change (recorded_closed k) o.id t.layers in (
-      (rw (e, i, n) c, m ∙ w.0.1, w.0.2, w.0.3, w.0.4),
+      (rw (e, i, n) c, m ∙ w.0.1, w.0.2, w.0.3, w.0.4, w.0.5, rw (e, n) (let many : suc (length outer) ≤ a.layers = rw e at w.0.6 in omega arith)),
       ∥∥₁_map w.1 (λ x.
           let y : Threads t.nodes (o.id ∷ s) a.drawn a.layers = rw e at x.threads in
           let u : AllUnclosed t.layers (o.id ∷ s) = rw e at x.unclosed in

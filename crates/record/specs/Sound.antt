@@ -12,7 +12,7 @@ use Rattle.record.specs.Table.{top, joint, span_end, Chained, held, Numbered}
 use Rattle.record.specs.Tree.{TreeView}
 
 -- Each layer adds two nodes at the most, an open one has not had its second yet, and the last node may be the active layer's own.
--- Every layer has a record, and no other number stands among the filter layers. There are 256 layers and 1,048,576 draws at the most.
+-- Every layer has a record, and no other number stands among the filter layers. There are at most 256 layers and 1,048,576 draws, no layer is deeper than 256, and no more are open than were recorded.
 abbrev pub Counted : AccountView → TreeView → Type 0
 Counted a t =
     (length t.nodes + length a.opened ≤ 2 * a.layers + joint t.nodes (top (ids a.opened)))
@@ -20,6 +20,8 @@ Counted a t =
     × (length t.filters ≤ a.layers)
     × (a.layers ≤ 256)
     × (a.drawn ≤ 1048576)
+    × (a.deepest ≤ 256)
+    × (length a.opened ≤ a.layers)
 
 -- a filter layer has a zero placement
 abbrev pub UnplacedKind : RecordedLayerKind → Type 0

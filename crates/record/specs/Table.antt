@@ -1,4 +1,4 @@
--- The table of nodes read latest first, and what a draw and an opening make of the table of nodes.
+-- The table of nodes, the latest first, and what a draw and an opening make of it.
 use Rattle.std.specs.Prelude.{◌≡◌, ℕ, ◌+◌, ◌≤◌, Bool, true, false, cond, List, [], ◌∷◌, Some, None, Option, nat_eq}
 use Rattle.std.specs.Option.{option_eq}
 use Rattle.layers.specs.declared.node.Node.{Node}
@@ -6,10 +6,6 @@ use Rattle.layers.specs.declared.node.Node.{Node}
 -- draws a..b, then perhaps the layer l, in the list of the layer o
 abbrev pub node : ℕ → ℕ → Option ℕ → Option ℕ → Node
 node a b l o = record { start = a; end = b; layer = l; owner = o }
-
--- what a place of the table holds before its first use
-abbrev pub blank : Node
-blank = node 0 0 None None
 
 -- the first of a list; of the open layers, innermost first, it is the active one
 abbrev pub top : List ℕ → Option ℕ

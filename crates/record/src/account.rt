@@ -8,13 +8,16 @@ pub const MAX_DRAWS: u32 = 1_048_576;
 
 pub const MAX_LAYERS: u32 = 256;
 
+// As many places as there may be layers: a table's capacity is no computed number.
+pub(crate) const LAYER_PLACES: usize = 256;
+
 #[derive(Drop)]
 pub struct Account {
     pub(crate) scene_size: SizeU16,
     pub(crate) draw_count: u32,
     pub(crate) layer_count: u32,
     // The open layers, the outermost first.
-    pub(crate) layer_stack: ArrayVec<OpenLayer, 256>,
+    pub(crate) layer_stack: ArrayVec<OpenLayer, LAYER_PLACES>,
     pub(crate) root_is_blend_target: bool,
     pub(crate) has_non_default_blend: bool,
     pub(crate) max_layer_depth: u32,

@@ -56,7 +56,7 @@ impl Account {
         }
     }
 
-    // Empties the account.
+    // Empties the account. Field by field: a new account would write every place of the stack, and a reset touches no more than it must.
     pub(crate) fn reset(&mut self, scene_size: SizeU16)
         ensures { self.new ≡ empty_account scene_size }
     {

@@ -31,7 +31,7 @@ impl CommandRecorder {
         }
     }
 
-    // Empties the recorder and sets the scene's size, raised to whole tiles.
+    // Empties the recorder and sets the scene's size, raised to whole tiles. Width and height stand apart, as the call has them.
     pub fn reset(&mut self, width: u16, height: u16) -> Result<(), Refusal>
         ensures { Answers (reset_questions width height) result (λ _. self.new ≡ after_reset width height) (self.new ≡ self.old) }
     {
@@ -41,6 +41,7 @@ impl CommandRecorder {
         Ok(())
     }
 
+    // The two lists are the caller's, and stand apart as in every call on them.
     // Records a draw in the active layer, and writes it to its place in the draw list. Answers its number.
     pub fn push_draw<D: Drawable + Drop>(
         &mut self,
@@ -51,7 +52,7 @@ impl CommandRecorder {
         ensures { Answers (draw_questions (length draws.old) self.old) result (λ n. Pushed n draw (D.box_of draw strips.now) (D.mode_of draw) self.old self.new draws.old draws.new) ((self.new ≡ self.old) × (draws.new ≡ draws.old)) }
     {
         let number = self.account.draw_count;
-        // By its index, before anything is altered: what a slice's get_mut lends says nothing of the list afterwards.
+        // By its index: what a slice's get_mut lends says nothing of the list afterwards.
         if number >= MAX_DRAWS || number as usize >= draws.len() {
             return Err(Refusal::NoPlaceForDraw);
         }
@@ -69,6 +70,7 @@ impl CommandRecorder {
         Ok(number)
     }
 
+    // Properties and filter stand apart: each layer has properties, and some have a filter.
     // Opens a layer inside the active one; with a filter it is a filter layer. Answers its number.
     pub fn push_layer(
         &mut self,

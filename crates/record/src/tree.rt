@@ -1,4 +1,5 @@
 // The tree: the nodes in the order in which they were made, and the layers in the order in which they were opened.
+use crate::account::LAYER_PLACES;
 use arrayvec::ArrayVec;
 use layers::layer::RecordedLayer;
 use layers::node::Node;
@@ -7,9 +8,10 @@ use std::marker::Model;
 // Two for each of 256 layers at the most, and one more.
 pub const MAX_NODES: usize = 513;
 
+// A struct of its own: the record of a closed layer is changed through a method of the table.
 #[derive(Drop)]
 pub struct LayerTable {
-    pub(crate) records: ArrayVec<RecordedLayer, 256>,
+    pub(crate) records: ArrayVec<RecordedLayer, LAYER_PLACES>,
 }
 
 #[derive(Drop)]
@@ -18,7 +20,7 @@ pub struct Tree {
     pub(crate) nodes: ArrayVec<Node, MAX_NODES>,
     pub(crate) layers: LayerTable,
     // The numbers of the filter layers, in the order in which they were opened.
-    pub(crate) filter_layers: ArrayVec<u32, 256>,
+    pub(crate) filter_layers: ArrayVec<u32, LAYER_PLACES>,
 }
 
 // Clauses see the nodes latest first.

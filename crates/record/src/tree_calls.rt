@@ -103,7 +103,7 @@ impl Tree {
         self.lengthen_last(number + 1);
     }
 
-    // Records layer `id`, now open, after `draws` draws.
+    // Records layer `id`, now open, after `draws` draws. `filter` stands beside the layer as in the call that brings both.
     pub(crate) fn open_layer(
         &mut self,
         id: u32,

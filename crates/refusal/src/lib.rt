@@ -52,6 +52,7 @@ impl Refusal {
     pub fn sentence(self) -> &'static str
         ensures { result.now ≡ sentence_of self }
     {
+        // By reference, so that what the clause says of `self` needs no proof by hand.
         match &self {
             Refusal::FillPastEdge => "a high edge of the fill is above 65532",
             Refusal::ScenePastEdge => "the scene is wider or higher than 65532",

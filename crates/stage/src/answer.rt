@@ -7,7 +7,7 @@ use std::fmt;
 use tiles::surface::Surface;
 use walk::listed::Listed;
 
-// The answer of a recording call.
+// The answer of a recording call, as it is printed: with the scene that was set, and the number of the layer that was closed.
 #[derive(Clone, Copy)]
 pub enum Answer {
     Reset(SizeU16),
@@ -41,6 +41,7 @@ impl fmt::Display for Entries<'_> {
     fn fmt<W: fmt::Write>(&self, f: &mut fmt::Formatter<W>) -> fmt::Result {
         let count = self.0.len();
         write!(f, "{count}:")?;
+        // By hand: the library joins strings alone, on a heap.
         let mut separator = " ";
         for listed in self.0 {
             let listed = Shown(*listed);

@@ -3,6 +3,7 @@ use script::fault::{Fault, Unread};
 use std::alloc::AllocError;
 use std::{fmt, io};
 
+// Its impls are written out: `thiserror` makes no plain variant of an error, and two errors here are one variant.
 #[derive(Drop)]
 pub enum Failure {
     Faulty(Fault),

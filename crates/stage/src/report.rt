@@ -28,17 +28,16 @@ struct NodesOf<'a> {
 
 impl fmt::Display for NodesOf<'_> {
     fn fmt<W: fmt::Write>(&self, f: &mut fmt::Formatter<W>) -> fmt::Result {
-        for node in self.nodes {
-            if node.owner == self.owner {
-                let node = Shown(*node);
-                write!(f, " {node}")?;
-            }
+        let owner = self.owner;
+        for node in self.nodes.iter().filter(|node| node.owner == owner) {
+            let node = Shown(*node);
+            write!(f, " {node}")?;
         }
         Ok(())
     }
 }
 
-// Numbers, each after a space.
+// Numbers, each after a space. Not one type with the nodes, which print otherwise and are picked by their owner.
 #[derive(Clone, Copy)]
 struct Numbers<'a>(&'a [u32]);
 

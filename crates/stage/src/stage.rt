@@ -62,6 +62,7 @@ fn kept(mut entries: Vec<Listed>, walked: Result<usize, Refusal>) -> Result<Vec<
     })
 }
 
+// Clauses write the box and the mode of `Tagged<D>` out: a definition of specs/ cannot cite a bound's members.
 impl<'a, D: DrawLine> Stage<'a, D> {
     // Nothing is recorded yet.
     pub fn new(heap: Global, sheet: &'a Sheet<D>) -> Result<Stage<'a, D>, AllocError>
@@ -130,9 +131,7 @@ impl<'a, D: DrawLine> Stage<'a, D> {
         ensures list { self.new.design.draws.items ≡ self.old.design.draws.items }
         ensures leads { LeadsOn ⟦<Tagged<D> as Drawable>⟧.box_of ⟦<Tagged<D> as Drawable>⟧.mode_of call.Close (is_ok result) self.old.design self.new.design }
     {
-        let Some(layer) = self.recorder().active_layer() else {
-            return Err(Refusal::NoLayerOpen);
-        };
+        let layer = self.recorder().active_layer().ok_or(Refusal::NoLayerOpen)?;
         match self.make(Call::Close)? {
             Made::Left(kind) => Ok(Answer::Leave(layer, kind)),
             _ => unreachable!(),
@@ -149,7 +148,7 @@ impl<'a, D: DrawLine> Stage<'a, D> {
         room.map_or(entries, |room| entries.min(room as usize))
     }
 
-    // The full walk, into a list of `room` places or of just enough.
+    // The full walk, into a list of `room` places or of just enough. A refusal is an answer, and the outer error ends the program.
     pub fn walk(&self, room: Option<u32>) -> Result<Result<Vec<Listed>, Refusal>, AllocError>
         ensures { IfOk result (λ walked. Answers (walk_questions self.now.design.recorder (unwrap_or room (entry_count self.now.design.recorder))) walked (λ entries. entries.items ≡ listed self.now.design.recorder) ⊤) }
     {
@@ -176,6 +175,7 @@ impl<'a, D: DrawLine> Stage<'a, D> {
     pub fn hit(&self, tile: Tile) -> Result<Option<Found>, Refusal>
         ensures { Answers (hit_questions tile self.now.design.recorder (vec_len self.now.design.draws)) result (Hits self.now.design.draws.items (tile_listed_in ⟦<Tagged<D> as Drawable>⟧.box_of self.now.design Scene tile)) ⊤ }
     {
+        // Not by `map`: only after the test is it known that the draw has a place.
         let Some(number) = self.design.hit(tile)? else {
             return Ok(None);
         };

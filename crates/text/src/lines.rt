@@ -11,8 +11,9 @@ pub struct TextLine<'a> {
     pub bytes: &'a [u8],
 }
 
-// What is left of a script, and how many lines were taken from it. They are counted here, and not by a `zip` of each
-// reader, since a line and its number are named together in every fault.
+// What is left of a script, and how many lines were taken from it. Lines are cut here and not by `str::lines`, which
+// would have the whole script be text, where a fault names the first line that is not; and counted here, since a line
+// and its number are named together in every fault.
 #[derive(Clone, Copy)]
 pub struct Lines<'a> {
     rest: &'a [u8],

@@ -26,7 +26,7 @@ fn cut_word(text: &str) -> (&str, &str)
     text.split_once(BLANKS).unwrap_or((text, ""))
 }
 
-// What is left of a line. It has no `Model`: that would take `Copy` from it, and a look-ahead is a copy.
+// What is left of a line. It has no `Model`: that would take `Copy` from a public type.
 #[derive(Clone, Copy)]
 pub struct Words<'a> {
     rest: &'a str,

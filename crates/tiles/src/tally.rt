@@ -4,7 +4,8 @@ ghost use Rattle.tiles.specs.Tally.{begun, Added};
 
 use walk::listed::Listed;
 
-// Not the full walk's list: that one has a place for every entry, and its writes need no test.
+// Not the full walk's list, which has a place for every entry: one list for both would ask here what only that walk has.
+// The list is the caller's, written from its first place on.
 #[derive(Drop)]
 pub(crate) struct Tally<'a> {
     pub(crate) out: &'a mut [Listed],

@@ -23,7 +23,8 @@ pub fn next_of(nodes: &[Node], owner: Option<u32>) -> Option<(&Node, &[Node])>
 
 impl Listing<'_> {
     // Lists the owner's nodes from the first on, with the layers that they hold, and answers the nodes after them.
-    // `depth` is how many layers further in the walk may go.
+    // `depth` is how many layers further in the walk may go. A recursion over the plain table, as the rules have it;
+    // a tile's walk is another, since it lists otherwise.
     #[tactic(auto, using(crate::proofs::Listings::walk_steps))]
     fn list_layer<'n>(&mut self, nodes: &'n [Node], owner: Option<u32>, depth: u32) -> &'n [Node]
         requires places { self.old.count + room nodes.now ≤ length self.old.out.now }

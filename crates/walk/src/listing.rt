@@ -6,7 +6,7 @@ ghost use Rattle.walk.specs.Walk.{own_draws};
 use crate::listed::Listed;
 use layers::node::Node;
 
-// The first `count` places of `out` are written.
+// The first `count` places of `out` are written. The list is the caller's, and is told the count.
 #[derive(Drop)]
 pub(crate) struct Listing<'a> {
     pub(crate) out: &'a mut [Listed],
