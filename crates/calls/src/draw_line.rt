@@ -37,7 +37,7 @@ impl Kind {
     }
 }
 
-// The kind whose lines begin with this word. Its words stand in `Head` too: each table is one of the definitions.
+// The kind whose lines begin with this word. A head that is none of its own is read by it.
 impl FromStr for Kind {
     type Err = Reason;
 

@@ -45,6 +45,7 @@ impl FromStr for Head {
             "walk" => Ok(Head::Call(Verb::Walk)),
             "report" => Ok(Head::Call(Verb::Report)),
             _ => {
+                // As the first word of a line it is not known.
                 let kind = word.parse().map_err(|_| Reason::UnknownWord)?;
                 Ok(Head::Call(Verb::Draw(kind)))
             }

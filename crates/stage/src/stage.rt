@@ -80,7 +80,7 @@ impl<'a, D: DrawLine> Stage<'a, D> {
     }
 
     // Makes one recording call. A refused one alters nothing. What an accepted one answers is of its call's own kind,
-    // so that in each call below no other answer can come.
+    // so that in each call below no other answer can come. A call of its own in `Design` for each would double the contracts.
     pub fn make(&mut self, call: Call<Tagged<D>>) -> Result<Made, Refusal>
         ensures kept { OnErr result (self.new.design.recorder ≡ self.old.design.recorder) }
         ensures made { CallMade (box_in ⟦<Tagged<D> as Drawable>⟧.box_of self.old.design) ⟦<Tagged<D> as Drawable>⟧.mode_of call result self.old.design.recorder self.new.design.recorder self.old.design.draws.items self.new.design.draws.items }
@@ -148,6 +148,7 @@ impl<'a, D: DrawLine> Stage<'a, D> {
         room.map_or(entries, |room| entries.min(room as usize))
     }
 
+    // The two walks make their lists apart: a closure that lends a slice on has no contract at its caller.
     // The full walk, into a list of `room` places or of just enough. A refusal is an answer, and the outer error ends the program.
     pub fn walk(&self, room: Option<u32>) -> Result<Result<Vec<Listed>, Refusal>, AllocError>
         ensures { IfOk result (λ walked. Answers (walk_questions self.now.design.recorder (unwrap_or room (entry_count self.now.design.recorder))) walked (λ entries. entries.items ≡ listed self.now.design.recorder) ⊤) }
