@@ -40,7 +40,7 @@ fn in_range(tile: Tile) -> bool
 }
 
 // Passes over the owner's nodes from the first on, and over the layers that they hold, and answers the nodes after them.
-// `depth` is how many layers further in it may go.
+// `depth` is how many layers further in it may go. A recursion over the plain table, as the rules have it.
 fn pass_layer(nodes: &[Node], owner: Option<u32>, depth: u32) -> &[Node]
     requires { held nodes.now ≤ depth }
     ensures passed { Passed owner nodes.now result.now }
@@ -111,7 +111,7 @@ impl<D: Drawable> View<'_, D> {
     }
 
     // Lists what the tile shows of the owner's nodes from the first on, and answers the nodes after them.
-    // `depth` is how many layers further in the walk may go.
+    // `depth` is how many layers further in the walk may go. A recursion over the plain table, as the rules have it.
     fn list_layer<'n>(
         &self,
         nodes: &'n [Node],
