@@ -1,5 +1,5 @@
 // What decides every refusal: the open layers, the counts, and the figures of the recording as a whole.
-use arrayvec::ArrayVec;
+use crate::table::Table;
 use geometry::size::SizeU16;
 use layers::layer::OpenLayer;
 use std::marker::Model;
@@ -17,7 +17,7 @@ pub struct Account {
     pub(crate) draw_count: u32,
     pub(crate) layer_count: u32,
     // The open layers, the outermost first.
-    pub(crate) layer_stack: ArrayVec<OpenLayer, LAYER_PLACES>,
+    pub(crate) layer_stack: Table<OpenLayer, LAYER_PLACES>,
     pub(crate) root_is_blend_target: bool,
     pub(crate) has_non_default_blend: bool,
     pub(crate) max_layer_depth: u32,
@@ -34,7 +34,7 @@ impl Model for Account {
 
     ghost view = { λ a. record {
       scene = a.scene_size;
-      opened = reverse a.layer_stack.items;
+      opened = reverse a.layer_stack;
       drawn = a.draw_count;
       layers = a.layer_count;
       root_target = a.root_is_blend_target;
@@ -44,5 +44,5 @@ impl Model for Account {
       largest_filter = a.largest_filter_layer_size;
     } };
 
-    ghost invariant = { λ a. (length a.layer_stack.items ≤ a.layer_count) × (a.layer_count ≤ 256) × (a.draw_count ≤ 1048576) × (a.max_layer_depth ≤ 256) };
+    ghost invariant = { λ a. (length a.layer_stack ≤ a.layer_count) × (a.layer_count ≤ 256) × (a.draw_count ≤ 1048576) × (a.max_layer_depth ≤ 256) };
 }

@@ -7,7 +7,7 @@ ghost use Rattle.layers.specs.Closing.{closing};
 ghost use Rattle.record.specs.Table.{top};
 
 use crate::account::Account;
-use arrayvec::ArrayVec;
+use crate::table::Table;
 use draws::blend::BlendMode;
 use filter::data::FilterData;
 use geometry::rect::RectU16;
@@ -47,7 +47,7 @@ impl Account {
             scene_size: SizeU16::ZERO,
             draw_count: 0,
             layer_count: 0,
-            layer_stack: ArrayVec::new(),
+            layer_stack: Table::new(),
             root_is_blend_target: false,
             has_non_default_blend: false,
             max_layer_depth: 0,
@@ -82,7 +82,7 @@ impl Account {
     pub(crate) fn has_layers(&self) -> bool
         ensures { result ≡ not (at_root self.now.opened) }
     {
-        !self.layer_stack.is_empty()
+        self.layer_stack.len() > 0
     }
 
     // The innermost open layer.
@@ -96,10 +96,12 @@ impl Account {
     fn record_bbox(&mut self, bbox: Option<RectU16>)
         ensures { self.new ≡ took_in bbox self.old }
     {
-        let (Some(layer), Some(bbox)) = (self.layer_stack.last_mut(), bbox) else {
+        let (Some(mut layer), Some(bbox)) = (self.layer_stack.as_slice().last().copied(), bbox)
+        else {
             return;
         };
         layer.contents = put_into(layer.contents, bbox);
+        self.layer_stack.set_last(layer);
     }
 
     // One more draw in the innermost open layer, or in the root.
@@ -162,7 +164,7 @@ impl Account {
     fn innermost(&self) -> Option<OpenLayer>
         ensures { result ≡ innermost_of self.now.opened }
     {
-        self.layer_stack.last().copied()
+        self.layer_stack.as_slice().last().copied()
     }
 
     // The innermost layer is no longer open.

@@ -3,9 +3,11 @@
 
 pub mod account;
 mod account_calls;
+mod constants;
 pub mod read;
 pub mod record;
 pub mod recorder;
+mod table;
 pub mod tree;
 mod tree_calls;
 

@@ -19,7 +19,8 @@ impl CommandRecorder {
     }
 
     pub fn draw_count(&self) -> u32
-        ensures { result ≡ self.now.account.drawn }
+        ensures value { result ≡ self.now.account.drawn }
+        ensures most { result ≤ 1048576 }
     {
         self.account.draw_count
     }
@@ -68,7 +69,8 @@ impl CommandRecorder {
 
     // How deep the deepest layer was opened.
     pub fn max_layer_depth(&self) -> u32
-        ensures { result ≡ self.now.account.deepest }
+        ensures value { result ≡ self.now.account.deepest }
+        ensures most { result ≤ 256 }
     {
         self.account.max_layer_depth
     }
@@ -97,14 +99,16 @@ impl CommandRecorder {
 
     // The layers by their numbers.
     pub fn layers(&self) -> &[RecordedLayer]
-        ensures { result.now ≡ self.now.tree.layers }
+        ensures value { result.now ≡ self.now.tree.layers }
+        ensures count { length result.now ≡ self.now.account.layers }
     {
         self.tree.layers.records.as_slice()
     }
 
     // The numbers of the filter layers, in the order in which they were opened.
     pub fn filter_layers(&self) -> &[u32]
-        ensures { result.now ≡ self.now.tree.filters }
+        ensures value { result.now ≡ self.now.tree.filters }
+        ensures most { length result.now ≤ self.now.account.layers }
     {
         self.tree.filter_layers.as_slice()
     }

@@ -1,6 +1,6 @@
 // The tree: the nodes in the order in which they were made, and the layers in the order in which they were opened.
 use crate::account::LAYER_PLACES;
-use arrayvec::ArrayVec;
+use crate::table::Table;
 use layers::layer::RecordedLayer;
 use layers::node::Node;
 use std::marker::Model;
@@ -11,16 +11,16 @@ pub const MAX_NODES: usize = 513;
 // A struct of its own: the record of a closed layer is changed through a method of the table.
 #[derive(Drop)]
 pub struct LayerTable {
-    pub(crate) records: ArrayVec<RecordedLayer, LAYER_PLACES>,
+    pub(crate) records: Table<RecordedLayer, LAYER_PLACES>,
 }
 
 #[derive(Drop)]
 pub struct Tree {
     // One table for all layers, each node with its owner, and no boxes: a recorder needs no heap.
-    pub(crate) nodes: ArrayVec<Node, MAX_NODES>,
+    pub(crate) nodes: Table<Node, MAX_NODES>,
     pub(crate) layers: LayerTable,
     // The numbers of the filter layers, in the order in which they were opened.
-    pub(crate) filter_layers: ArrayVec<u32, LAYER_PLACES>,
+    pub(crate) filter_layers: Table<u32, LAYER_PLACES>,
 }
 
 // Clauses see the nodes latest first.
@@ -30,5 +30,5 @@ impl Model for Tree {
 
     ghost Value = { TreeView };
 
-    ghost view = { λ t. record { nodes = reverse t.nodes.items; layers = t.layers.records.items; filters = t.filter_layers.items } };
+    ghost view = { λ t. record { nodes = reverse t.nodes; layers = t.layers.records; filters = t.filter_layers } };
 }

@@ -4,8 +4,8 @@ ghost use Rattle.record.specs.Table.{joins, joined, lengthen, hang};
 ghost use Rattle.layers.specs.Records.{recorded_closed};
 ghost use Rattle.record.specs.Tree.{empty_tree, with_nodes, tree_after_draw, tree_after_opening, tree_after_closing, change_at};
 
+use crate::table::Table;
 use crate::tree::{LayerTable, Tree};
-use arrayvec::ArrayVec;
 use filter::data::FilterData;
 use layers::closing::placed_kind;
 use layers::layer::{ClosedLayer, RecordedLayer};
@@ -13,20 +13,29 @@ use layers::node::Node;
 
 impl LayerTable {
     fn new() -> LayerTable
-        ensures { result.records.items ≡ [] }
+        ensures { result.records ≡ [] }
     {
         LayerTable {
-            records: ArrayVec::new(),
+            records: Table::new(),
         }
     }
 
     // Changes the record of the layer that was closed, at its place.
     fn close(&mut self, id: u32, closed: &ClosedLayer)
-        ensures { self.new.records.items ≡ change_at (recorded_closed closed.now) id self.old.records.items }
+        ensures { self.new.records ≡ change_at (recorded_closed closed.now) id self.old.records }
     {
-        if let Some(layer) = self.records.get_mut(id as usize) {
-            layer.kind = placed_kind(layer.kind, closed.placement);
-            layer.bbox = closed.bbox;
+        let place = id as usize;
+        if let Some(layer) = self.records.get(place) {
+            let kind = placed_kind(layer.kind, closed.placement);
+            let bbox = closed.bbox;
+            self.records.set(
+                place,
+                RecordedLayer {
+                    kind,
+                    bbox,
+                    ..layer
+                },
+            );
         }
     }
 }
@@ -37,9 +46,9 @@ impl Tree {
         ensures { result ≡ empty_tree }
     {
         Tree {
-            nodes: ArrayVec::new(),
+            nodes: Table::new(),
             layers: LayerTable::new(),
-            filter_layers: ArrayVec::new(),
+            filter_layers: Table::new(),
         }
     }
 
@@ -56,6 +65,7 @@ impl Tree {
         ensures { result ≡ joins self.now.nodes owner }
     {
         self.nodes
+            .as_slice()
             .last()
             .is_some_and(|last| last.layer.is_none() && last.owner == owner)
     }
@@ -64,8 +74,8 @@ impl Tree {
     fn lengthen_last(&mut self, end: u32)
         ensures { self.new ≡ with_nodes (lengthen end self.old.nodes) self.old }
     {
-        if let Some(last) = self.nodes.last_mut() {
-            last.end = end;
+        if let Some(last) = self.nodes.as_slice().last().copied() {
+            self.nodes.set_last(Node { end, ..last });
         }
     }
 
@@ -73,8 +83,9 @@ impl Tree {
     fn hang_last(&mut self, layer: u32)
         ensures { self.new ≡ with_nodes (hang layer self.old.nodes) self.old }
     {
-        if let Some(last) = self.nodes.last_mut() {
-            last.layer = Some(layer);
+        if let Some(last) = self.nodes.as_slice().last().copied() {
+            let layer = Some(layer);
+            self.nodes.set_last(Node { layer, ..last });
         }
     }
 

@@ -1,13 +1,12 @@
-use Rattle.std.proofs.Common.{rules, set, ap, ◌∙◌}
+use Rattle.std.proofs.Common.{sym, ◌∙◌}
 use Rattle.layers.specs.Records.{recorded_closed}
-use Rattle.record.proofs.Changes.{change-set, change-past}
+use Rattle.record.proofs.Changes.{change-got, change-none}
 use Rattle.record.proofs.tree.LayerTable.close.Goals as goal
 
 pub returns-in-Some : goal.returns-in-Some
 returns-in-Some c =
-    let layers = c.args.self.now.records.items in
     let closed = recorded_closed c.args.closed.now in
-    rw c.placed_kind-layer.ensures (ap (λ x. set layers c.args.id (closed x)) c.in-Some.ensures.value ∙ change-set closed _ layers c.args.id (search rules))
+    c.set.ensures ∙ rw c.placed_kind-kind.ensures (change-got closed c.args.self.now.records c.args.id c.in-Some.layer (sym c.get.ensures ∙ c.in-Some.is))
 
 pub returns-in_default : goal.returns-in_default
-returns-in_default c = change-past (recorded_closed c.args.closed.now) c.args.self.now.records.items c.args.id (search rules)
+returns-in_default c = change-none (recorded_closed c.args.closed.now) c.args.self.now.records c.args.id (sym c.get.ensures ∙ c.in_default.is)
