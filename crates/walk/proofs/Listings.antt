@@ -29,6 +29,10 @@ poured-whole a (x ∷ es) out h =
     ∙ ap (λ z. (take a out ++ (x ∷ [])) ++ (es ++ z)) (drop-set-lt ((a + 1) + length es) out a x far)
     ∙ append_assoc (take a out) (x ∷ []) (es ++ drop ((a + 1) + length es) out))
 
+pub length-poured : (a : ℕ) (es out : List Listed) → length (poured a es out) ≡ length out
+length-poured a [] out = refl
+length-poured a (x ∷ es) out = length-poured (a + 1) es (set out a x) ∙ length-set out a x
+
 pub added_then : {xs ys : List Listed} {t u v : Listing} → Added xs t u → Added ys u v → Added (xs ++ ys) t v
 added_then {xs} {ys} {t} {u} {v} p q = record {
   same = q.same ∙ p.same;

@@ -1,13 +1,12 @@
-use Rattle.std.proofs.Common.{◌≤◌, arith}
-use Rattle.walk.proofs.Listings.{added_then}
-use Rattle.walk.proofs.Walks.{length-spanned, spanned_more}
+use Rattle.std.proofs.Common.{◌-◌, length, refl, ap, ◌∙◌, arith}
+use Rattle.walk.specs.Walk.{own_draws}
+use Rattle.walk.proofs.Listings.{length-poured}
+use Rattle.walk.proofs.Walks.{length-spanned}
 use Rattle.walk.proofs.listing.Listing.push_draws.Goals as goal
 
-pub push-requires : goal.push-requires
-push-requires c = omega (arith, length-spanned)
-
-pub loop-number-preserved : goal.loop-number-preserved
-loop-number-preserved c =
-    let n = c.loop-number.number in
-    let le : c.args.node.now.start ≤ n = omega arith in
-    (omega arith, rw (spanned_more c.args.node.now.start n le) (added_then c.loop-number.invariant.1 c.push.ensures))
+pub returns : goal.returns
+returns c =
+    let node = c.args.node.now in
+    let before = c.args.self.now in
+    let wrote = c.write_draws-self.ensures in
+    record { same = refl; count = omega (arith, length-spanned node.start (node.end - node.start), wrote.next); places = wrote.places; long = ap length wrote.places ∙ length-poured before.count (own_draws node) before.out.now }
