@@ -26,7 +26,11 @@ pub enum Entry<D> {
 pub fn read_kind(words: &mut Words<'_>) -> Result<Kind, Reason>
     ensures { Reads kind_of words.old result words.new }
 {
-    words.next_word().ok_or(Reason::UnknownKind)?.parse()
+    // A word that names no kind is not taken.
+    let mut ahead = *words;
+    let kind = ahead.next_word().ok_or(Reason::UnknownKind)?.parse()?;
+    *words = ahead;
+    Ok(kind)
 }
 
 // What a line says that begins with this head, and perhaps more words after it.
