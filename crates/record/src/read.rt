@@ -36,6 +36,7 @@ impl CommandRecorder {
     pub fn open_count(&self) -> usize
         ensures value { result ≡ length self.now.account.opened }
         ensures most { result ≤ 256 }
+        ensures recorded { result ≤ self.now.account.layers }
     {
         self.account.open_count()
     }

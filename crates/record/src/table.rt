@@ -78,7 +78,7 @@ impl<T: Copy + Default, const N: usize> Table<T, N> {
         }
     }
 
-    // The last, where there is one, is written anew.
+    // The last, where there is one, is written anew. Taken out and put back it would be copied twice at each draw.
     pub(crate) fn set_last(&mut self, element: T)
         ensures { self.new ≡ slice_set self.old (length self.old - 1) element }
     {
